@@ -1,5 +1,3 @@
 pub mod Caused
 pub mod OpenedItems
-pub mod Overlapping
 pub mod Told
-pub mod UnfitValues

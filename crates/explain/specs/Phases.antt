@@ -5,7 +5,6 @@ use Rattle.explain.specs.declared.phase.Phase.{Phase}
 use Rattle.explain.specs.declared.phase.Phase.TheVariants as phase
 use Rattle.explain.specs.declared.place.Place.{Place}
 use Rattle.explain.specs.declared.place.Place.TheVariants as place
-use Rattle.explain.specs.declared.place.SymbolFault.{SymbolFault}
 use Rattle.explain.specs.declared.place.SymbolFault.TheVariants as symbol_fault
 
 abbrev pub error_phase : LinkError → Phase
@@ -31,11 +30,6 @@ error_phase error.NoEntry = phase.Entry
 error_phase error.TooLarge = phase.Room
 error_phase error.Overflow = phase.Values
 
-abbrev pub symbol_phase : SymbolFault → Phase
-symbol_phase symbol_fault.BadCommon = phase.Commons
-symbol_phase symbol_fault.BadSymbol = phase.Symbols
-symbol_phase symbol_fault.Duplicate = phase.Definitions
-
 -- an error that is told as a whole is of no phase
 abbrev pub place_phase : Place → Phase
 place_phase (place.Word number f) = phase.Words
@@ -45,7 +39,9 @@ place_phase (place.NoIndex p) = phase.Archives
 place_phase (place.Object p f part) = phase.Objects
 place_phase (place.Groups p f) = phase.Objects
 place_phase (place.Section p) = phase.Kinds
-place_phase (place.Symbol p f) = symbol_phase f
+place_phase (place.Symbol p symbol_fault.BadCommon) = phase.Commons
+place_phase (place.Symbol p symbol_fault.BadSymbol) = phase.Symbols
+place_phase (place.Symbol p symbol_fault.Duplicate) = phase.Definitions
 place_phase (place.Relocation p f) = phase.References
 place_phase (place.Overlap p q) = phase.Overlaps
 place_phase (place.Entry name) = phase.Entry

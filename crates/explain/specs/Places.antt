@@ -1,5 +1,5 @@
 -- What a place of an explanation says, and the cause that it carries.
-use Rattle.std.specs.Prelude.{◌≡◌, ◌≢◌, ◌<◌, ◌+◌, ◌%◌, ◌^◌, ℕ, true, List, [], Option, Some, Ok, Err, All, IfSome, unwrap_or}
+use Rattle.std.specs.Prelude.{◌≡◌, ◌≢◌, ◌⊎◌, ◌<◌, ◌+◌, ◌%◌, ◌^◌, ℕ, true, List, [], Option, Some, Ok, Err, All, IfSome, unwrap_or}
 use Rattle.std.specs.List.{slice_get}
 use Rattle.elf_model.specs.Own.Causes.{AnyRelocation, Cause, HasObjects, IsBadArchive, IsUndefinedName, IsWithoutIndex, Reaches}
 use Rattle.elf_model.specs.Inputs.Command.{Item, Plan, command_of}
@@ -7,7 +7,7 @@ use Rattle.elf_model.specs.Inputs.Files.{File}
 use Rattle.elf_model.specs.Link.Groups.{GroupFaultStands}
 use Rattle.elf_model.specs.Link.Loading.{LoadedObject, loaded_objects}
 use Rattle.elf_model.specs.Inputs.ObjectFile.{IsObject, ObjFaultStands, groups, section_name, sections, symbol_name, symbols}
-use Rattle.elf_model.specs.Link.Relocation.{AreFieldsApart, Relocation}
+use Rattle.elf_model.specs.Link.Relocation.{AreFieldsApart, Relocation, relocation_of}
 use Rattle.elf_model.specs.Inputs.Opening.{HasFile, Opened, opened}
 use Rattle.elf_model.specs.Link.Pieces.{is_kept}
 use Rattle.elf_model.specs.Link.Placement.{section_address}
@@ -35,8 +35,6 @@ use Rattle.relocate.specs.References.{IsUnlawful}
 use Rattle.relocate.specs.declared.faults.RelocationFault.{RelocationFault}
 use Rattle.relocate.specs.declared.faults.RelocationFault.TheVariants as wrong
 use Rattle.relocate.specs.Values.{where_in}
-use Rattle.explain.specs.Phases.{place_phase}
-use Rattle.explain.specs.declared.phase.Phase.{Phase}
 use Rattle.explain.specs.declared.place.ObjectPlace.{ObjectPlace}
 use Rattle.explain.specs.declared.place.Place.{Place}
 use Rattle.explain.specs.declared.place.Place.TheVariants as place
@@ -96,6 +94,10 @@ pub record IsRelocationAt (objects : List LoadedObject) (p : RelocationPlace) (r
   pub object : slice_get objects p.at.object ≡ Some o
   pub file : IsFileOf o p.file
   pub at : kept_places.IsRelocationAt objects p.at r
+
+-- it is one of the object that has a number
+abbrev pub IsKeptOf : List LoadedObject → ℕ → LoadedObject → RelocationPlace → Type 0
+IsKeptOf objects n o p = IsRelocationAt objects p (relocation_of n o p.at.section p.at.entry)
 
 -- a kept relocation is wrong
 pub record IsWrongRelocation (objects : List LoadedObject) (p : RelocationPlace) (fault : RelocationFault) : Type 0 where
@@ -163,41 +165,54 @@ pub record IsMissing (files : List File) (plan : Plan) (i : ℕ) (source : Sourc
   pub source_is : source_of source ≡ item.source
   pub missing : ¬ HasFile files plan.directories item
 
--- what a place says of the files of a plan, and of the objects that it loads from them
+-- what a place says of the files of a plan
 abbrev pub HoldsOf : List File → Plan → Place → Type 0
 HoldsOf files plan (place.Missing i source) = IsMissing files plan i source
 HoldsOf files plan (place.Archive p f) = IsItemAt files plan p (λ o. (f ≢ archive_fault.Memory) × IsBadArchive f o)
 HoldsOf files plan (place.NoIndex p) = IsItemAt files plan p IsWithoutIndex
 HoldsOf files plan (place.Object p f part) = IsStoppedAt files plan p (HasFault f part)
 HoldsOf files plan (place.Groups p f) = IsStoppedAt files plan p (HasBadGroups f)
-HoldsOf files plan p = HoldsIn (record { plan = plan; objects = loaded_objects files plan; names = [] }) p
+HoldsOf files plan _ = ⊥
 
 -- the words are refused with a fault: at the word that has the number, or without one all of them together
 pub record IsWordAt (words : List (List ℕ)) (number : Option ℕ) (f : CmdFault) : Type 0 where
   pub at : AreRefused words f number
   pub refused : command_of words ≡ Err f
 
--- what a place says of the words of a command, and of its files; of an error that is told as a whole its cause says all
+-- what a place says of the words; of an error that is told as a whole its cause says all
+abbrev pub HoldsBy : List (List ℕ) → Place → Type 0
+HoldsBy words (place.Word number f) = IsWordAt words number f
+HoldsBy words (place.Refused e) = e.now ≢ error.Memory
+HoldsBy words _ = ⊥
+
+-- what places are told of: words, files and a plan, or what is loaded
+pub data Ground : Type 0 where
+  OfWords : List (List ℕ) → Ground
+  OfPlan : List File → Plan → Ground
+  OfLoaded : LoadedPlan → Ground
+
+abbrev pub IsSo : Ground → Place → Type 0
+IsSo (OfWords words) = HoldsBy words
+IsSo (OfPlan files plan) = HoldsOf files plan
+IsSo (OfLoaded l) = HoldsIn l
+
+-- the places of a list are so
+abbrev pub AreSo : Ground → List Place → Type 0
+AreSo g places = All (IsSo g) places
+
+-- the words are a plan, and this is what it loads from files
+pub record IsLoadedBy (files : List File) (words : List (List ℕ)) (l : LoadedPlan) : Type 0 where
+  pub words_are : command_of words ≡ Ok l.plan
+  pub loads : l.objects ≡ loaded_objects files l.plan
+
+-- what a place says: of the words of a command, of the files of its plan, or of the objects that this loads from them
 abbrev pub Says : List File → List (List ℕ) → Place → Type 0
-Says files words (place.Word number f) = IsWordAt words number f
-Says files words (place.Refused e) = e.now ≢ error.Memory
-Says files words p = (plan : Plan) × (command_of words ≡ Ok plan) × HoldsOf files plan p
+Says files words p =
+    HoldsBy words p
+    ⊎ ((plan : Plan) × (command_of words ≡ Ok plan) × HoldsOf files plan p)
+    ⊎ ((l : LoadedPlan) × IsLoadedBy files words l × HoldsIn l p)
 
--- the cause of the error that a place is of, where a name is that of the place
-abbrev pub SymbolCause : List File → List (List ℕ) → List ℕ → SymbolFault → Type 0
-SymbolCause files words name symbol_fault.BadCommon = Cause files words error.BadCommon
-SymbolCause files words name symbol_fault.BadSymbol = Cause files words error.BadSymbol
-SymbolCause files words name symbol_fault.Duplicate =
-    (p : Plan) × HasObjects files words p × IsDuplicate (loaded_objects files p) name
-
-abbrev pub RelocationCause : List File → List (List ℕ) → List ℕ → RelocationFault → Type 0
-RelocationCause files words name wrong.Undefined = AnyRelocation files words (IsUndefinedName name)
-RelocationCause files words name wrong.RefToDropped = Cause files words error.RefToDropped
-RelocationCause files words name wrong.RelocKind = Cause files words error.RelocKind
-RelocationCause files words name wrong.FieldOutside = Cause files words error.FieldOutside
-RelocationCause files words name wrong.TlsMismatch = Cause files words error.TlsMismatch
-RelocationCause files words name wrong.MixedSection = Cause files words error.MixedSection
-
+-- the cause of the error that a place is of; a name is that of the place
 abbrev pub CauseOf : List File → List (List ℕ) → Place → Type 0
 CauseOf files words (place.Word number f) = Cause files words (error.Command f)
 CauseOf files words (place.Missing i source) = Cause files words error.FileMissing
@@ -207,8 +222,16 @@ CauseOf files words (place.Object p f part) = Cause files words (error.BadObject
 CauseOf files words (place.Groups p f) = Cause files words (error.BadGroup f)
 CauseOf files words (place.Section p) = Cause files words error.SectionKind
 CauseOf files words (place.Large p) = Cause files words error.TooLarge
-CauseOf files words (place.Symbol p f) = SymbolCause files words p.name.now f
-CauseOf files words (place.Relocation p f) = RelocationCause files words p.at.symbol_name.now f
+CauseOf files words (place.Symbol p symbol_fault.BadCommon) = Cause files words error.BadCommon
+CauseOf files words (place.Symbol p symbol_fault.BadSymbol) = Cause files words error.BadSymbol
+CauseOf files words (place.Symbol p symbol_fault.Duplicate) =
+    (plan : Plan) × HasObjects files words plan × IsDuplicate (loaded_objects files plan) p.name.now
+CauseOf files words (place.Relocation p wrong.Undefined) = AnyRelocation files words (IsUndefinedName p.at.symbol_name.now)
+CauseOf files words (place.Relocation p wrong.RefToDropped) = Cause files words error.RefToDropped
+CauseOf files words (place.Relocation p wrong.RelocKind) = Cause files words error.RelocKind
+CauseOf files words (place.Relocation p wrong.FieldOutside) = Cause files words error.FieldOutside
+CauseOf files words (place.Relocation p wrong.TlsMismatch) = Cause files words error.TlsMismatch
+CauseOf files words (place.Relocation p wrong.MixedSection) = Cause files words error.MixedSection
 CauseOf files words (place.Overlap p q) = Cause files words error.OverlappingFields
 CauseOf files words (place.Value p value address) = Cause files words error.Overflow
 CauseOf files words (place.Entry name) = Cause files words error.NoEntry
@@ -218,15 +241,3 @@ CauseOf files words (place.Refused e) = Cause files words e.now
 pub record Holds (files : List File) (words : List (List ℕ)) (p : Place) : Type 0 where
   pub says : Says files words p
   pub cause : CauseOf files words p
-
--- what a place says is so, and it is of a phase
-pub record IsOfPhase (files : List File) (words : List (List ℕ)) (ph : Phase) (p : Place) : Type 0 where
-  pub says : Says files words p
-  pub phase_is : place_phase p ≡ ph
-
--- the places of a list are so
-abbrev pub AreSo : LoadedPlan → List Place → Type 0
-AreSo l places = All (HoldsIn l) places
-
-abbrev pub AreSoOf : List File → Plan → List Place → Type 0
-AreSoOf files plan places = All (HoldsOf files plan) places

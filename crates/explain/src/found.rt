@@ -1,14 +1,12 @@
 //! The places that were found so far: the first of them, and how many more there are.
 ghost use Rattle.std.specs.Prelude.{◌≡◌, ◌≢◌, ◌<◌, ◌≤◌, [], All, IfOk, IfSome, IsTrue, List, OnOk, length, ℕ};
-ghost use Rattle.elf_model.specs.Inputs.Command as command;
 ghost use Rattle.elf_model.specs.Inputs.Files.{File};
-ghost use Rattle.search.specs.Loads.{LoadedPlan};
 ghost use Rattle.elf_model.specs.Own.Causes.{Cause};
 ghost use Rattle.elf_model.specs.declared.faults.LinkError.TheVariants as link_error;
 ghost use Rattle.explain.specs.Phases.{place_phase};
-ghost use Rattle.explain.specs.Places.{AreSo, AreSoOf, Holds, HoldsIn, HoldsOf, IsOfPhase, Says};
+ghost use Rattle.explain.specs.Places.{AreSo, Ground, Holds, IsSo, Says};
 
-use crate::phase::Phase;
+use crate::phase::{Phase, phase_of};
 use crate::place::Place;
 use elf_model::LinkError;
 use std::alloc::{AllocError, Global};
@@ -33,9 +31,8 @@ pub struct Found<'a> {
 
 impl<'a> Found<'a> {
     /// No places; at most so many are kept.
-    pub fn new(alloc: Global, most: usize) -> Found<'a>
-        ensures none { result.places.items ≡ [] }
-        ensures most { result.most ≡ most }
+    pub(crate) fn new(alloc: Global, most: usize) -> Found<'a>
+        ensures { result.places.items ≡ [] }
     {
         Found {
             places: Vec::new(alloc),
@@ -44,29 +41,14 @@ impl<'a> Found<'a> {
         }
     }
 
-    /// Takes in a place: keeps it, or counts it where as many are kept as may be.
-    pub fn add(&mut self, place: Place<'a>) -> Result<(), AllocError>
-        ensures loaded { (l : LoadedPlan) →
-            AreSo l self.old.places.items → HoldsIn l place.entry
-            → OnOk result (AreSo l self.new.places.items) }
-        ensures files { (files : List File) (plan : command.Plan) →
-            AreSoOf files plan self.old.places.items → HoldsOf files plan place.entry
-            → OnOk result (AreSoOf files plan self.new.places.items) }
-        ensures words { (files : List File) (words : List (List ℕ)) →
-            All (Says files words) self.old.places.items → Says files words place.entry
-            → OnOk result (All (Says files words) self.new.places.items) }
-        ensures phase { (files : List File) (words : List (List ℕ)) (phase : Phase) →
-            All (IsOfPhase files words phase) self.old.places.items
-            → IsOfPhase files words phase place.entry
-            → OnOk result (All (IsOfPhase files words phase) self.new.places.items) }
-        ensures holds { (files : List File) (words : List (List ℕ)) →
-            All (Holds files words) self.old.places.items → Holds files words place.entry
-            → OnOk result (All (Holds files words) self.new.places.items) }
-        ensures most { self.new.most ≡ self.old.most }
-        ensures few { length self.old.places.items ≤ self.old.most
-            → length self.new.places.items ≤ self.old.most }
-        ensures some { OnOk result (0 < self.old.most → 0 < length self.new.places.items) }
+    /// Takes in a place, where there is one: keeps it, or counts it where as many are kept as may be.
+    pub(crate) fn add(&mut self, place: Option<Place<'a>>) -> Added
+        ensures { (g : Ground) → AreSo g self.old.places.items → IfSome place.entry (IsSo g)
+            → OnOk result (AreSo g self.new.places.items) }
     {
+        let Some(place) = place else {
+            return Ok(());
+        };
         if self.places.len() >= self.most {
             self.more = self.more.saturating_add(1);
             return Ok(());
@@ -75,69 +57,25 @@ impl<'a> Found<'a> {
         Ok(())
     }
 
-    /// Takes in a place, where there is one.
-    pub fn add_some(&mut self, place: Option<Place<'a>>) -> Result<(), AllocError>
-        ensures loaded { (l : LoadedPlan) →
-            AreSo l self.old.places.items → IfSome place.entry (HoldsIn l) →
-            OnOk result (AreSo l self.new.places.items) }
-        ensures files { (files : List File) (plan : command.Plan) →
-            AreSoOf files plan self.old.places.items → IfSome place.entry (HoldsOf files plan) →
-            OnOk result (AreSoOf files plan self.new.places.items) }
-    {
-        match place {
-            Some(place) => self.add(place),
-            None => Ok(()),
-        }
-    }
-
-    /// Takes in a place, where it is of a phase.
-    fn add_of(&mut self, place: Place<'a>, phase: Phase) -> Added
-        requires { length self.old.places.items ≤ self.old.most }
-        ensures phase { (files : List File) (words : List (List ℕ)) →
-            All (IsOfPhase files words phase) self.old.places.items → Says files words place.entry
-            → OnOk result (All (IsOfPhase files words phase) self.new.places.items) }
-        ensures most { OnOk result (self.new.most ≡ self.old.most) }
-        ensures few { OnOk result (length self.new.places.items ≤ self.new.most) }
-    {
-        if !is_of(&place, phase) {
-            return Ok(());
-        }
-        self.add(place)
-    }
-
-    /// The places that are of a phase, at most so many.
-    pub fn of_phase(self, alloc: Global, phase: Phase, most: usize) -> Result<Found<'a>, AllocError>
-        ensures phase { (files : List File) (words : List (List ℕ)) →
-            All (Says files words) self.entry.places.items
-            → IfOk result (λ f. All (IsOfPhase files words phase) f.places.items) }
-        ensures most { IfOk result (λ f. f.most ≡ most) }
+    /// The places that are of the phase of an error, at most so many; where there is none, the error as a whole.
+    pub(crate) fn told(self, error: &'a LinkError, most: usize) -> Result<Found<'a>, AllocError>
+        ensures holds { (files : List File) (words : List (List ℕ)) →
+            error.entry.now ≢ link_error.Memory → Cause files words error.entry.now
+            → All (Says files words) self.entry.places.items
+            → IfOk result (λ f. All (Holds files words) f.places.items) }
         ensures few { IfOk result (λ f. length f.places.items ≤ most) }
+        ensures some { IfOk result (λ f. 0 < most → 0 < length f.places.items) }
     {
         let Found { places, more, .. } = self;
-        let mut kept = Found::new(alloc, most);
-        kept.more = more;
-        for i in 0..places.len() {
-            kept.add_of(places[i], phase)?;
+        let mut places = places;
+        let phase = phase_of(error);
+        places.retain(|place| is_of(place, phase));
+        places.truncate(most);
+        if !places.is_empty() || most == 0 {
+            return Ok(Found { places, more, most });
         }
-        Ok(kept)
-    }
-
-    /// Takes in an error as a whole, where no place of it was found.
-    pub fn or_error(self, error: &'a LinkError) -> Result<Found<'a>, AllocError>
-        requires { length self.places.items ≤ self.most }
-        ensures holds { (files : List File) (words : List (List ℕ)) →
-            All (Holds files words) self.entry.places.items → error.entry.now ≢ link_error.Memory
-            → Cause files words error.entry.now
-            → IfOk result (λ f. All (Holds files words) f.places.items) }
-        ensures few { IfOk result (λ f. length f.places.items ≤ self.entry.most) }
-        ensures some { IfOk result (λ f. 0 < self.entry.most → 0 < length f.places.items) }
-    {
-        if !self.places.is_empty() {
-            return Ok(self);
-        }
-        let mut found = self;
-        found.add(Place::Refused(error))?;
-        Ok(found)
+        places.push(Place::Refused(error))?;
+        Ok(Found { places, more, most })
     }
 
     /// The places that are kept, in the order in which they were found.

@@ -3,22 +3,17 @@
 //! Begin with `explain`.
 #![tactic(auto)]
 
+mod entries;
 mod files;
 mod found;
-mod kept_entries;
+mod judged;
 mod lines;
 mod link;
-mod objects;
-mod overlaps;
 mod passed_archives;
 mod phase;
 mod place;
-mod relocations;
 mod surroundings;
 mod text;
-mod unfit;
-mod unlawful;
-mod unsound;
 mod wanted;
 
 pub use found::Found;

@@ -1,41 +1,26 @@
 //! Why a link is refused, phase by phase.
-ghost use Rattle.std.specs.Prelude.{◌≡◌, ◌↔◌, ◌<◌, ◌≤◌, [], All, Err, IfOk, IfSome, IsTrue, List, OnOk, length};
+ghost use Rattle.std.specs.Prelude.{◌≡◌, ◌↔◌, ◌<◌, ◌≤◌, [], All, IfOk, IsTrue, OnOk, length};
 ghost use Rattle.elf_model.specs.Own.Causes.{Cause};
-ghost use Rattle.elf_model.specs.Inputs.Command.{IsBase, command_of};
+ghost use Rattle.elf_model.specs.Inputs.Command.{IsBase};
 ghost use Rattle.elf_model.specs.declared.faults.LinkError.TheVariants as link_error;
-ghost use Rattle.elf_model.specs.Inputs.Files.{File, files_of, words_of};
+ghost use Rattle.elf_model.specs.Inputs.Files.{files_of, words_of};
 ghost use Rattle.elf_model.specs.Link.Pieces.{AreLawfulKinds};
 ghost use Rattle.resolve.specs.Refusals.{ResolvingFails};
-ghost use Rattle.explain.specs.Places.{AreSo, AreSoOf, Holds, Says};
+ghost use Rattle.explain.specs.Places.{AreSo, Holds, OfLoaded, OfPlan, Says};
 
-use crate::files::{add_archives, add_missing, add_object};
+use crate::files::{add_items, add_refused};
 use crate::found::{Added, Found};
-use crate::overlaps::add_overlaps;
-use crate::phase::phase_of;
 use crate::place::Place;
-use crate::relocations::add_relocations;
-use crate::unfit::add_values;
 use crate::wanted::{Wanted, add_wanted};
 use command::{Plan, read_words, refused_word};
 use elf_model::{CmdFault, InputFile, LinkError};
 use got_tls::slots;
-use layout::{LayoutFault, kinds, place};
+use layout::{LayoutFault, kinds, mixed_names, place};
 use opening::FileIndex;
-use relocate::{RelocFault, references};
+use relocate::{RelocFault, pointer_of, references};
 use resolve::{ResolveFault, Resolved, resolve};
 use search::{Loaded, SearchFault, load};
 use std::alloc::{AllocError, Global};
-
-/// Adds why the words are refused.
-fn add_word(alloc: Global, found: &mut Found<'_>, words: &[String], fault: CmdFault) -> Added
-    requires none { found.old.places.items ≡ [] }
-    requires fault { command_of (words_of words.now) ≡ Err fault }
-    ensures { (files : List File) →
-        OnOk result (All (Says files (words_of words.now)) found.new.places.items) }
-{
-    let number = refused_word(alloc, words)?;
-    found.add(Place::Word(number, fault))
-}
 
 /// Adds why a plan isn't loaded.
 fn add_unloaded<'a>(
@@ -45,52 +30,40 @@ fn add_unloaded<'a>(
     plan: &Plan<'a>,
     fault: SearchFault,
 ) -> Added
-    requires { AreSoOf (files_of files.now) plan.now found.old.places.items }
-    ensures { OnOk result (AreSoOf (files_of files.now) plan.now found.new.places.items) }
+    requires { AreSo (OfPlan (files_of files.now) plan.now) found.old.places.items }
+    ensures { OnOk result (AreSo (OfPlan (files_of files.now) plan.now) found.new.places.items) }
 {
     let index = FileIndex::new(alloc, files)?;
     match fault {
         SearchFault::Memory => Err(AllocError),
-        SearchFault::FileMissing => add_missing(alloc, found, &index, plan),
+        SearchFault::FileMissing => add_items(alloc, found, &index, plan, false),
         SearchFault::BadArchive(_) | SearchFault::NoIndex => {
-            add_archives(alloc, found, &index, plan)
+            add_items(alloc, found, &index, plan, true)
         }
         SearchFault::BadObject(_) | SearchFault::Group(_) => {
-            add_object(alloc, found, files, plan)
+            add_refused(alloc, found, files, plan)
         }
     }
 }
 
 /// Adds why names mean nothing.
-fn add_unresolved<'a>(found: &mut Found<'a>, loaded: &Loaded<'a>, fault: &ResolveFault) -> Added
-    requires fault { ResolvingFails loaded.now.objects fault.now }
-    requires before { AreSo loaded.now found.old.places.items }
-    ensures { OnOk result (AreSo loaded.now found.new.places.items) }
-{
-    match fault {
-        ResolveFault::Memory => Err(AllocError),
-        ResolveFault::BadCommon => add_wanted(found, Wanted::UnsoundCommons, loaded),
-        ResolveFault::BadSymbol => add_wanted(found, Wanted::UnsoundSymbols, loaded),
-        ResolveFault::Duplicate(name) => add_wanted(found, Wanted::Definitions(name), loaded),
-    }
-}
-
-/// Adds why references are refused.
-fn add_unreferred<'a>(
+fn add_unresolved<'a>(
     alloc: Global,
     found: &mut Found<'a>,
     loaded: &Loaded<'a>,
-    resolved: &Resolved<'a>,
-    fault: &RelocFault,
+    fault: &ResolveFault,
 ) -> Added
-    requires resolved { resolved.now ≡ loaded.now.objects }
-    requires before { AreSo loaded.now found.old.places.items }
-    ensures { OnOk result (AreSo loaded.now found.new.places.items) }
+    requires fault { ResolvingFails loaded.now.objects fault.now }
+    requires before { AreSo (OfLoaded loaded.now) found.old.places.items }
+    ensures { OnOk result (AreSo (OfLoaded loaded.now) found.new.places.items) }
 {
     match fault {
-        RelocFault::Memory => Err(AllocError),
-        RelocFault::OverlappingFields => add_overlaps(alloc, found, loaded),
-        _ => add_relocations(alloc, found, loaded, resolved),
+        ResolveFault::Memory => Err(AllocError),
+        ResolveFault::BadCommon => add_wanted(alloc, found, Wanted::UnsoundCommons, loaded),
+        ResolveFault::BadSymbol => add_wanted(alloc, found, Wanted::UnsoundSymbols, loaded),
+        ResolveFault::Duplicate(name) => {
+            add_wanted(alloc, found, Wanted::Definitions(name), loaded)
+        }
     }
 }
 
@@ -104,14 +77,18 @@ fn add_unfit<'a>(
     requires resolved { resolved.now ≡ loaded.now.objects }
     requires base { IsBase loaded.now.plan.base }
     requires kinds { AreLawfulKinds loaded.now.objects }
-    requires before { AreSo loaded.now found.old.places.items }
-    ensures { OnOk result (AreSo loaded.now found.new.places.items) }
+    requires before { AreSo (OfLoaded loaded.now) found.old.places.items }
+    ensures { OnOk result (AreSo (OfLoaded loaded.now) found.new.places.items) }
 {
     let slots = slots(alloc, loaded, resolved)?;
     match place(alloc, loaded, resolved, slots.got(), loaded.plan().base) {
-        Ok(placement) => add_values(alloc, found, loaded, resolved, &placement, &slots),
+        Ok(placement) => {
+            let pointer = pointer_of(&placement);
+            let wanted = Wanted::UnfitEntries(resolved, &placement, &slots, pointer);
+            add_wanted(alloc, found, wanted, loaded)
+        }
         Err(LayoutFault::Memory) => Err(AllocError),
-        Err(_) => add_wanted(found, Wanted::LargeSections, loaded),
+        Err(_) => add_wanted(alloc, found, Wanted::LargeSections, loaded),
     }
 }
 
@@ -125,15 +102,24 @@ fn add_unlinked<'a>(
     requires resolved { resolved.now ≡ loaded.now.objects }
     requires base { IsBase loaded.now.plan.base }
     requires kinds { AreLawfulKinds loaded.now.objects }
-    requires before { AreSo loaded.now found.old.places.items }
-    ensures { OnOk result (AreSo loaded.now found.new.places.items) }
+    requires before { AreSo (OfLoaded loaded.now) found.old.places.items }
+    ensures { OnOk result (AreSo (OfLoaded loaded.now) found.new.places.items) }
 {
-    if let Err(fault) = references(alloc, loaded, resolved) {
-        return add_unreferred(alloc, found, loaded, resolved, &fault);
+    match references(alloc, loaded, resolved) {
+        Ok(_) => {}
+        Err(RelocFault::Memory) => return Err(AllocError),
+        Err(RelocFault::OverlappingFields) => {
+            return add_wanted(alloc, found, Wanted::Overlaps, loaded);
+        }
+        Err(_) => {
+            let mixed = mixed_names(alloc, resolved)?;
+            let wanted = Wanted::UnlawfulEntries(resolved, &mixed);
+            return add_wanted(alloc, found, wanted, loaded);
+        }
     }
     let entry = loaded.plan().entry;
     if resolved.entry(entry.as_bytes()).is_none() {
-        return found.add(Place::Entry(entry));
+        return found.add(Some(Place::Entry(entry)));
     }
     add_unfit(alloc, found, loaded, resolved)
 }
@@ -141,34 +127,15 @@ fn add_unlinked<'a>(
 /// Adds why what is loaded isn't linked.
 fn add_loaded<'a>(alloc: Global, found: &mut Found<'a>, loaded: &Loaded<'a>) -> Added
     requires base { IsBase loaded.now.plan.base }
-    requires before { AreSo loaded.now found.old.places.items }
-    ensures { OnOk result (AreSo loaded.now found.new.places.items) }
+    requires before { AreSo (OfLoaded loaded.now) found.old.places.items }
+    ensures { OnOk result (AreSo (OfLoaded loaded.now) found.new.places.items) }
 {
-    match kinds(loaded) {
-        Ok(()) => {}
-        Err(_) => return add_wanted(found, Wanted::UnlawfulSections, loaded),
-    }
+    let Ok(()) = kinds(loaded) else {
+        return add_wanted(alloc, found, Wanted::UnlawfulSections, loaded);
+    };
     match resolve(alloc, loaded) {
         Ok(resolved) => add_unlinked(alloc, found, loaded, &resolved),
-        Err(fault) => add_unresolved(found, loaded, &fault),
-    }
-}
-
-/// Adds why a plan isn't linked from files.
-#[tactic(auto, using(crate::proofs::Told::so_of))]
-fn add_plan<'a>(
-    alloc: Global,
-    found: &mut Found<'a>,
-    files: &'a [InputFile],
-    plan: &Plan<'a>,
-) -> Added
-    requires base { IsBase plan.now.base }
-    requires none { found.old.places.items ≡ [] }
-    ensures { OnOk result (AreSoOf (files_of files.now) plan.now found.new.places.items) }
-{
-    match load(alloc, plan, files) {
-        Ok(loaded) => add_loaded(alloc, found, &loaded),
-        Err(fault) => add_unloaded(alloc, found, files, plan, fault),
+        Err(fault) => add_unresolved(alloc, found, loaded, &fault),
     }
 }
 
@@ -183,7 +150,6 @@ fn is_memory(error: &LinkError) -> bool
 }
 
 /// Adds why the link of files that words name is refused.
-#[tactic(auto, using(crate::proofs::Told::says_of))]
 fn add_reasons<'a>(
     alloc: Global,
     found: &mut Found<'a>,
@@ -194,10 +160,17 @@ fn add_reasons<'a>(
     ensures { OnOk result (All
         (Says (files_of files.now) (words_of words.now)) found.new.places.items) }
 {
-    match read_words(alloc, words) {
-        Ok(plan) => add_plan(alloc, found, files, &plan),
-        Err(CmdFault::Memory) => Err(AllocError),
-        Err(fault) => add_word(alloc, found, words, fault),
+    let plan = match read_words(alloc, words) {
+        Ok(plan) => plan,
+        Err(CmdFault::Memory) => return Err(AllocError),
+        Err(fault) => {
+            let number = refused_word(alloc, words)?;
+            return found.add(Some(Place::Word(number, fault)));
+        }
+    };
+    match load(alloc, &plan, files) {
+        Ok(loaded) => add_loaded(alloc, found, &loaded),
+        Err(fault) => add_unloaded(alloc, found, files, &plan, fault),
     }
 }
 
@@ -226,6 +199,5 @@ pub fn explain<'a>(
     }
     let mut found = Found::new(alloc, most);
     add_reasons(alloc, &mut found, files, words)?;
-    let told = found.of_phase(alloc, phase_of(error), most)?;
-    told.or_error(error)
+    found.told(error, most)
 }

@@ -1,6 +1,6 @@
 //! The phases of a link: what each error is of, and each place.
 ghost use Rattle.std.specs.Prelude.{◌≡◌};
-ghost use Rattle.explain.specs.Phases.{error_phase, place_phase, symbol_phase};
+ghost use Rattle.explain.specs.Phases.{error_phase, place_phase};
 
 use crate::place::{Place, SymbolFault};
 use elf_model::LinkError;
@@ -52,20 +52,9 @@ pub fn phase_of(error: &LinkError) -> Phase
     }
 }
 
-/// The phase of a wrong symbol.
-fn symbol_phase(fault: SymbolFault) -> Phase
-    ensures { result ≡ symbol_phase fault }
-{
-    match fault {
-        SymbolFault::BadCommon => Phase::Commons,
-        SymbolFault::BadSymbol => Phase::Symbols,
-        SymbolFault::Duplicate => Phase::Definitions,
-    }
-}
-
 impl<'a> Place<'a> {
     /// The phase of the errors that a place is of.
-    pub fn phase(&self) -> Phase
+    pub(crate) fn phase(&self) -> Phase
         ensures { result ≡ place_phase self.now }
     {
         match self {
@@ -74,7 +63,9 @@ impl<'a> Place<'a> {
             Place::Archive(_, _) | Place::NoIndex(_) => Phase::Archives,
             Place::Object(_, _, _) | Place::Groups(_, _) => Phase::Objects,
             Place::Section(_) => Phase::Kinds,
-            Place::Symbol(_, fault) => symbol_phase(*fault),
+            Place::Symbol(_, SymbolFault::BadCommon) => Phase::Commons,
+            Place::Symbol(_, SymbolFault::BadSymbol) => Phase::Symbols,
+            Place::Symbol(_, SymbolFault::Duplicate) => Phase::Definitions,
             Place::Relocation(_, _) => Phase::References,
             Place::Overlap(_, _) => Phase::Overlaps,
             Place::Entry(_) => Phase::Entry,

@@ -58,9 +58,6 @@ pub enum SymbolFault {
     Duplicate,
 }
 
-/// A place at which something is wrong, where there is one.
-pub(crate) type Wrong<'a> = Option<Place<'a>>;
-
 /// Where something is wrong, and what.
 #[derive(Clone, Copy, Debug)]
 pub enum Place<'a> {

@@ -10,14 +10,14 @@ pub returns-in_ok-part-in-BadObject : goal.returns-in_ok-part-in-BadObject
 returns-in_ok-part-in-BadObject c = λ files plan is.
     let f = c.in-BadObject.fault in
     let part = c.in_ok-part-in-BadObject.part in
-    stopped_at files plan c.args.object.now c.place_at-place.result (HasFault f part) is c.place_at-place.ensures
+    stopped_at files plan c.args.object.now (HasFault f part) is
     (λ o bad same.
     let stands = subst (λ (e : SearchFault). LoadsBadly e o) c.in-BadObject.is bad in
     (stands.0, stands.1, subst (λ (b : List ℕ). IfSome part (IsBadOf b f)) same c.in_ok-part-in-BadObject.ensures.bad))
 
 pub returns-in-Group : goal.returns-in-Group
 returns-in-Group c = λ files plan is.
-    stopped_at files plan c.args.object.now c.place_at-place.result (HasBadGroups c.in-Group.fault) is c.place_at-place.ensures
+    stopped_at files plan c.args.object.now (HasBadGroups c.in-Group.fault) is
     (λ o bad same.
     let stands = subst (λ (e : SearchFault). LoadsBadly e o) c.in-Group.is bad in
     (stands.0, stands.1.0, stands.1.1))

@@ -1,5 +1,0 @@
-use Rattle.explain.proofs.files.add_missing.Goals as goal
-
-pub loop-i-preserved : goal.loop-i-preserved
-loop-i-preserved c =
-    c.in_ok-add_some.ensures.files c.args.files.now c.args.plan.now c.loop-i.invariant c.in_ok-missing_item.ensures

@@ -1,0 +1,21 @@
+use Rattle.std.proofs.Common.{◌≡◌, ◌∙◌, ap, rules, subst, sym}
+use Rattle.elf_model.specs.Link.Pieces.{AreLawfulKinds}
+use Rattle.elf_model.specs.Link.Slots.{slots}
+use Rattle.layout.specs.Placements.{Basis}
+use Rattle.explain.specs.Places.{basis_of}
+use Rattle.explain.proofs.link.add_unfit.Goals as goal
+
+pub pointer_of-pointer-requires : goal.pointer_of-pointer-requires
+pointer_of-pointer-requires c = subst (λ (b : Basis). AreLawfulKinds b.objects) (sym c.in-Ok.ensures.exact) c.requires.kinds
+
+pub add_wanted-requires-clause-asked : goal.add_wanted-requires-clause-asked
+add_wanted-requires-clause-asked c =
+    let placed : c.in-Ok.placement ≡ basis_of c.args.loaded.now = search rules in
+    record {
+      resolved = c.requires.resolved;
+      placed = placed;
+      kinds = subst (λ (b : Basis). AreLawfulKinds b.objects) (sym placed) c.requires.kinds;
+      slots_are = c.in_ok-slots.ensures.slots ∙ ap (λ (b : Basis). slots b.objects) (sym placed);
+      slots_of = c.in_ok-slots.ensures.objects;
+      pointer_is = c.pointer_of-pointer.ensures;
+    }

@@ -1,4 +1,0 @@
-use Rattle.explain.proofs.unfit.add_object.Goals as goal
-
-pub loop-at-preserved : goal.loop-at-preserved
-loop-at-preserved c = c.in_ok-add_some.ensures.loaded c.args.loaded.now c.loop-at.invariant c.unfit_entry.ensures

@@ -1,5 +1,0 @@
-use Rattle.explain.specs.Places.{AreSo}
-use Rattle.explain.proofs.unfit.add_values.Given as goal
-
-abbrev pub invariant-loop-k : goal.invariant-loop-k
-invariant-loop-k l = AreSo l.loaded l.found.places.items
