@@ -86,17 +86,13 @@ abbrev pub fault_of : BadPart → ObjFault
 fault_of (part.Range p) = fault.BadSectionRange
 fault_of (part.SectionName p) = fault.BadString
 fault_of (part.SymbolName p) = fault.BadString
-fault_of (part.SecondTable p q) = fault.BadSymbolTable
-fault_of (part.Extension p) = fault.BadSymbolTable
-fault_of (part.SymbolTable p) = fault.BadSymbolTable
-fault_of (part.NullSymbol p) = fault.BadSymbolTable
-fault_of (part.Symbol p) = fault.BadSymbolTable
 fault_of (part.Rel p) = fault.BadRela
 fault_of (part.Relas p) = fault.BadRela
 fault_of (part.Entry p) = fault.BadRela
 fault_of (part.Group p) = fault.BadGroup
 fault_of (part.Signature p) = fault.BadGroup
 fault_of (part.Member p) = fault.BadGroup
+fault_of _ = fault.BadSymbolTable
 
 -- a part is bad, and of a fault
 abbrev pub IsBadOf : List ℕ → ObjFault → BadPart → Type 0

@@ -26,9 +26,8 @@ use Rattle.search.specs.Loads.{LoadedPlan}
 use Rattle.relocate.specs.References.{IsUnlawful}
 use Rattle.relocate.specs.declared.faults.RelocationFault.{RelocationFault}
 use Rattle.relocate.specs.declared.faults.RelocationFault.TheVariants as wrong
-use Rattle.explain.specs.Phases.{error_phase, place_phase}
 use Rattle.explain.specs.Places as places
-use Rattle.explain.specs.Places.{CauseOf, HasFault, Holds, IsFileOf, IsLoadedBy, IsWrongRelocation, Says}
+use Rattle.explain.specs.Places.{CauseOf, HasFault, Holds, IsFileOf, IsLoadedBy, IsWrongRelocation, Says, error_phase, place_phase}
 use Rattle.explain.specs.declared.phase.Phase.{Phase}
 use Rattle.explain.specs.declared.phase.Phase.TheVariants as phase
 use Rattle.explain.specs.declared.place.Place.{Place}
@@ -86,16 +85,16 @@ loaded_of files words p l is by = by.loads ∙ ap (loaded_objects files) (one_pl
 relocation_cause :
     (files : List File) (words : List (List ℕ)) (p : Plan) (q : RelocationPlace) (f : RelocationFault) → IsResolved files words p →
     IsWrongRelocation (loaded_objects files p) q f → CauseOf files words (place.Relocation q f)
-relocation_cause files words p q f resolved w = by f w.wrong
+relocation_cause files words p q f resolved w = by f w.2
   where
     objects : List LoadedObject
     objects = loaded_objects files p
 
-    any : (Stands : Relocation → Type 0) → Stands w.r → Any Stands (relocations objects)
-    any Stands stands = Any-from_contains Stands (relocations objects) w.r (listed objects q.at w.r w.at.at) stands
+    any : (Stands : Relocation → Type 0) → Stands w.0 → Any Stands (relocations objects)
+    any Stands stands = Any-from_contains Stands (relocations objects) w.0 (listed objects q.at w.0 w.1.at) stands
 
-    by : (g : RelocationFault) → IsUnlawful objects w.r g → CauseOf files words (place.Relocation q g)
-    by wrong.Undefined h = (p, resolved, any (IsUndefinedName q.at.symbol_name.now objects) (h.0, h.1, sym w.at.at.told.symbol_name))
+    by : (g : RelocationFault) → IsUnlawful objects w.0 g → CauseOf files words (place.Relocation q g)
+    by wrong.Undefined h = (p, resolved, any (IsUndefinedName q.at.symbol_name.now objects) (h.0, h.1, sym w.1.at.told.symbol_name))
     by wrong.RefToDropped h = (p, resolved, any (IsToDropped objects) h)
     by wrong.RelocKind h = (p, resolved, any (λ r. relocation_kind r ≡ None) h)
     by wrong.FieldOutside h = (p, resolved, any (λ r. ¬ IsFieldInside r) h)
@@ -157,7 +156,7 @@ caused files words (place.Symbol p symbol_fault.BadSymbol) g s = g
 caused files words (place.Symbol p symbol_fault.Duplicate) g s =
     let t = of_loaded s in
     let same = loaded_of files words g.0 t.0 g.1.before.before.words_are t.1 in
-    (g.0, g.1, subst (λ (os : List LoadedObject). IsDuplicate os p.name.now) same (subst (IsDuplicate t.0.objects) (sym t.2.at.name) t.2.wrong.1))
+    (g.0, g.1, subst (λ (os : List LoadedObject). IsDuplicate os p.name.now) same (subst (IsDuplicate t.0.objects) (sym t.2.name) t.2.stands.1))
 caused files words (place.Relocation p f) g s =
     let t = of_loaded s in
     let same = loaded_of files words g.0 t.0 g.1.before.before.before.words_are t.1 in

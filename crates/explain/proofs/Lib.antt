@@ -1,3 +1,2 @@
 pub mod Caused
-pub mod OpenedItems
 pub mod Told

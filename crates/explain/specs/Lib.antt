@@ -1,4 +1,2 @@
-pub mod Opened
-pub mod Phases
 pub mod Places
 pub mod Wanted

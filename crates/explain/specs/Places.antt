@@ -17,6 +17,7 @@ use Rattle.elf_model.specs.declared.faults.ArFault.TheVariants as archive_fault
 use Rattle.elf_model.specs.declared.faults.CmdFault.{CmdFault}
 use Rattle.elf_model.specs.declared.faults.GroupFault.{GroupFault}
 use Rattle.elf_model.specs.declared.faults.GroupFault.TheVariants as group_fault
+use Rattle.elf_model.specs.declared.faults.LinkError.{LinkError}
 use Rattle.elf_model.specs.declared.faults.LinkError.TheVariants as error
 use Rattle.elf_model.specs.declared.faults.ObjFault.{ObjFault}
 use Rattle.elf_model.specs.declared.faults.ObjFault.TheVariants as object_fault
@@ -26,6 +27,8 @@ use Rattle.command.specs.RefusedWords.{AreRefused}
 use Rattle.command.specs.Views.{source_of}
 use Rattle.command.specs.declared.items.Source.{Source}
 use Rattle.opening.specs.Faults.{IsSearchable}
+use Rattle.opening.specs.Opened.{item_view}
+use Rattle.opening.specs.declared.opened_items.OpenedItem.{OpenedItem}
 use Rattle.search.specs.Loads.{LoadedPlan}
 use Rattle.input_names.specs.RelocationPlaces as kept_places
 use Rattle.input_names.specs.RelocationPlaces.{AreTwo}
@@ -35,6 +38,8 @@ use Rattle.relocate.specs.References.{IsUnlawful}
 use Rattle.relocate.specs.declared.faults.RelocationFault.{RelocationFault}
 use Rattle.relocate.specs.declared.faults.RelocationFault.TheVariants as wrong
 use Rattle.relocate.specs.Values.{where_in}
+use Rattle.explain.specs.declared.phase.Phase.{Phase}
+use Rattle.explain.specs.declared.phase.Phase.TheVariants as phase
 use Rattle.explain.specs.declared.place.ObjectPlace.{ObjectPlace}
 use Rattle.explain.specs.declared.place.Place.{Place}
 use Rattle.explain.specs.declared.place.Place.TheVariants as place
@@ -50,43 +55,33 @@ pub record IsFileOf (o : LoadedObject) (p : ObjectPlace) : Type 0 where
   pub path : p.path.now ≡ o.path
   pub offset : p.offset ≡ o.offset
 
--- a place is that of a section
-pub record IsSectionAt (objects : List LoadedObject) (p : SectionPlace) (o : LoadedObject) : Type 0 where
+-- a place is that of a section of an object, of which something stands
+pub record IsSectionOf (objects : List LoadedObject) (p : SectionPlace) (Stands : LoadedObject → Type 0) : Type 0 where
+  pub o : LoadedObject
   pub file : IsFileOf o p.file
   pub object : slice_get objects p.object ≡ Some o
   pub section : slice_get (sections o.bytes) p.section ≡ Some p.header
   pub name : p.name.now ≡ unwrap_or (section_name o.bytes p.section) []
+  pub stands : Stands o
 
--- it is kept, and its type or its flags are none of the profile's
-pub record IsUnlawfulSection (objects : List LoadedObject) (p : SectionPlace) : Type 0 where
+-- it is kept, and takes up more than all addresses from a base on
+abbrev pub IsLargeIn : ℕ → SectionPlace → LoadedObject → Type 0
+IsLargeIn base p o = (is_kept o p.section p.header ≡ true) × (2 ^ 46 < base + p.header.sh_size)
+
+-- a place is that of a symbol of an object, of which something stands
+pub record IsSymbolOf (objects : List LoadedObject) (p : SymbolPlace) (Stands : LoadedObject → Type 0) : Type 0 where
   pub o : LoadedObject
-  pub at : IsSectionAt objects p o
-  pub wrong : ¬ IsLawfulIfKept o p.section p.header
-
--- it is kept, and takes up more than all addresses from the plan's base on
-pub record IsLargeSection (base : ℕ) (objects : List LoadedObject) (p : SectionPlace) : Type 0 where
-  pub o : LoadedObject
-  pub at : IsSectionAt objects p o
-  pub kept : is_kept o p.section p.header ≡ true
-  pub large : 2 ^ 46 < base + p.header.sh_size
-
--- a place is that of a symbol
-pub record IsSymbolAt (objects : List LoadedObject) (p : SymbolPlace) (o : LoadedObject) : Type 0 where
   pub file : IsFileOf o p.file
   pub object : slice_get objects p.object ≡ Some o
   pub symbol : slice_get (symbols o.bytes) p.symbol ≡ Some p.entry
   pub name : p.name.now ≡ unwrap_or (symbol_name o.bytes p.symbol) []
+  pub stands : Stands o
 
 -- what is wrong with a symbol; a strong definition is, where its name has two
 abbrev pub IsSymbolWrong : List LoadedObject → SymbolOf → SymbolFault → Type 0
 IsSymbolWrong objects s symbol_fault.BadCommon = ¬ IsSoundCommon s
 IsSymbolWrong objects s symbol_fault.BadSymbol = ¬ IsSoundSymbol objects s
 IsSymbolWrong objects s symbol_fault.Duplicate = (is_strong s ≡ true) × IsDuplicate objects s.name
-
-pub record IsWrongSymbol (objects : List LoadedObject) (p : SymbolPlace) (fault : SymbolFault) : Type 0 where
-  pub o : LoadedObject
-  pub at : IsSymbolAt objects p o
-  pub wrong : IsSymbolWrong objects (symbol_of p.object o p.symbol p.entry) fault
 
 -- a place is that of a kept relocation, and of its object
 pub record IsRelocationAt (objects : List LoadedObject) (p : RelocationPlace) (r : Relocation) : Type 0 where
@@ -100,10 +95,8 @@ abbrev pub IsKeptOf : List LoadedObject → ℕ → LoadedObject → RelocationP
 IsKeptOf objects n o p = IsRelocationAt objects p (relocation_of n o p.at.section p.at.entry)
 
 -- a kept relocation is wrong
-pub record IsWrongRelocation (objects : List LoadedObject) (p : RelocationPlace) (fault : RelocationFault) : Type 0 where
-  pub r : Relocation
-  pub at : IsRelocationAt objects p r
-  pub wrong : IsUnlawful objects r fault
+abbrev pub IsWrongRelocation : List LoadedObject → RelocationPlace → RelocationFault → Type 0
+IsWrongRelocation objects p fault = (r : Relocation) × IsRelocationAt objects p r × IsUnlawful objects r fault
 
 -- a place is that of a kept relocation, whose value where the objects are laid out from a base on doesn't fit its field; the
 -- value and the address of the field
@@ -128,9 +121,9 @@ abbrev pub basis_of : LoadedPlan → Basis
 basis_of l = record { base = l.plan.base; objects = l.objects }
 
 abbrev pub HoldsIn : LoadedPlan → Place → Type 0
-HoldsIn l (place.Section p) = IsUnlawfulSection l.objects p
-HoldsIn l (place.Large p) = IsLargeSection l.plan.base l.objects p
-HoldsIn l (place.Symbol p fault) = IsWrongSymbol l.objects p fault
+HoldsIn l (place.Section p) = IsSectionOf l.objects p (λ o. ¬ IsLawfulIfKept o p.section p.header)
+HoldsIn l (place.Large p) = IsSectionOf l.objects p (IsLargeIn l.plan.base p)
+HoldsIn l (place.Symbol p fault) = IsSymbolOf l.objects p (λ o. IsSymbolWrong l.objects (symbol_of p.object o p.symbol p.entry) fault)
 HoldsIn l (place.Relocation p fault) = IsWrongRelocation l.objects p fault
 HoldsIn l (place.Overlap p q) = IsOverlap l.objects p q
 HoldsIn l (place.Value p value address) = IsUnfit (basis_of l) p value address
@@ -144,6 +137,10 @@ HasFault f part bytes = (f ≢ object_fault.Memory) × ObjFaultStands bytes f ×
 -- bytes are an object whose groups have a fault
 abbrev pub HasBadGroups : GroupFault → List ℕ → Type 0
 HasBadGroups f bytes = (f ≢ group_fault.Memory) × IsObject bytes × GroupFaultStands (groups bytes) f
+
+-- an opened item is that of a plan that has its number
+abbrev pub IsOpened : List File → Plan → OpenedItem → Type 0
+IsOpened files plan item = slice_get (opened files plan) item.number ≡ Some (item_view item)
 
 -- a place is that of an item of a plan, which is opened, and something stands of it
 pub record IsItemAt (files : List File) (plan : Plan) (p : ObjectPlace) (Stands : Opened → Type 0) : Type 0 where
@@ -211,6 +208,49 @@ Says files words p =
     HoldsBy words p
     ⊎ ((plan : Plan) × (command_of words ≡ Ok plan) × HoldsOf files plan p)
     ⊎ ((l : LoadedPlan) × IsLoadedBy files words l × HoldsIn l p)
+
+-- what is judged together in a link: the phase of each error, and of each place
+abbrev pub error_phase : LinkError → Phase
+error_phase error.Memory = phase.None
+error_phase (error.Command f) = phase.Words
+error_phase error.FileMissing = phase.Files
+error_phase (error.BadArchive f) = phase.Archives
+error_phase error.NoIndex = phase.Archives
+error_phase (error.BadObject f) = phase.Objects
+error_phase (error.BadGroup f) = phase.Objects
+error_phase error.SectionKind = phase.Kinds
+error_phase error.BadCommon = phase.Commons
+error_phase error.BadSymbol = phase.Symbols
+error_phase (error.Duplicate name) = phase.Definitions
+error_phase (error.Undefined name) = phase.References
+error_phase error.RefToDropped = phase.References
+error_phase error.RelocKind = phase.References
+error_phase error.FieldOutside = phase.References
+error_phase error.TlsMismatch = phase.References
+error_phase error.MixedSection = phase.References
+error_phase error.OverlappingFields = phase.Overlaps
+error_phase error.NoEntry = phase.Entry
+error_phase error.TooLarge = phase.Room
+error_phase error.Overflow = phase.Values
+
+-- an error that is told as a whole is of no phase
+abbrev pub place_phase : Place → Phase
+place_phase (place.Word number f) = phase.Words
+place_phase (place.Missing i source) = phase.Files
+place_phase (place.Archive p f) = phase.Archives
+place_phase (place.NoIndex p) = phase.Archives
+place_phase (place.Object p f part) = phase.Objects
+place_phase (place.Groups p f) = phase.Objects
+place_phase (place.Section p) = phase.Kinds
+place_phase (place.Symbol p symbol_fault.BadCommon) = phase.Commons
+place_phase (place.Symbol p symbol_fault.BadSymbol) = phase.Symbols
+place_phase (place.Symbol p symbol_fault.Duplicate) = phase.Definitions
+place_phase (place.Relocation p f) = phase.References
+place_phase (place.Overlap p q) = phase.Overlaps
+place_phase (place.Entry name) = phase.Entry
+place_phase (place.Large p) = phase.Room
+place_phase (place.Value p value address) = phase.Values
+place_phase (place.Refused e) = phase.None
 
 -- the cause of the error that a place is of; a name is that of the place
 abbrev pub CauseOf : List File → List (List ℕ) → Place → Type 0

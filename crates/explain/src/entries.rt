@@ -13,8 +13,8 @@ use std::alloc::{AllocError, Global};
 #[derive(Clone, Copy, Debug)]
 pub struct EntryAt {
     /// The number of the section that it relocates, and its offset in there.
-    section: u32,
-    offset: u64,
+    pub section: u32,
+    pub offset: u64,
     /// The number of the RELA section, and its own in there, from 0.
     table: usize,
     number: usize,
@@ -35,13 +35,6 @@ pub fn kept_entries(alloc: Global, one: &LoadedObject<'_>) -> Result<Vec<EntryAt
             })?;
         }
     }
-    Ok(entries)
-}
-
-/// The same in the order of the sections that they relocate, and of their offsets in there.
-pub fn entries_by_field(alloc: Global, one: &LoadedObject<'_>) -> Result<Vec<EntryAt>, AllocError> {
-    let mut entries = kept_entries(alloc, one)?;
-    entries.sort_by_key(|e| (e.section, e.offset))?;
     Ok(entries)
 }
 

@@ -5,8 +5,7 @@ ghost use Rattle.command.specs.Views.{item_of};
 ghost use Rattle.elf_model.specs.Inputs.Command as command;
 ghost use Rattle.elf_model.specs.Inputs.Files.{File, files_of};
 ghost use Rattle.search.specs.Faults.{IsRefusedIn};
-ghost use Rattle.explain.specs.Opened.{IsOpened};
-ghost use Rattle.explain.specs.Places.{AreSo, HoldsOf, OfPlan};
+ghost use Rattle.explain.specs.Places.{AreSo, HoldsOf, IsOpened, OfPlan};
 
 use crate::found::{Added, Found};
 use crate::place::{ObjectPlace, Place};

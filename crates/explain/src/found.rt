@@ -3,8 +3,7 @@ ghost use Rattle.std.specs.Prelude.{◌≡◌, ◌≢◌, ◌<◌, ◌≤◌, []
 ghost use Rattle.elf_model.specs.Inputs.Files.{File};
 ghost use Rattle.elf_model.specs.Own.Causes.{Cause};
 ghost use Rattle.elf_model.specs.declared.faults.LinkError.TheVariants as link_error;
-ghost use Rattle.explain.specs.Phases.{place_phase};
-ghost use Rattle.explain.specs.Places.{AreSo, Ground, Holds, IsSo, Says};
+ghost use Rattle.explain.specs.Places.{AreSo, Ground, Holds, IsSo, Says, place_phase};
 
 use crate::phase::{Phase, phase_of};
 use crate::place::Place;

@@ -38,29 +38,6 @@ fn count<'a>(counts: &mut Counts<'a>, name: &'a [u8]) -> Result<u64, AllocError>
     Ok(number)
 }
 
-/// How many references each undefined name has among places.
-fn references<'a>(alloc: Global, places: &[Place<'a>]) -> Result<Counts<'a>, AllocError> {
-    let mut counts = BTreeMap::new(alloc);
-    for place in places {
-        if let Some(name) = undefined_name(place) {
-            let _ = count(&mut counts, name)?;
-        }
-    }
-    Ok(counts)
-}
-
-/// Writes which archive has an undefined name.
-fn write_passed<W: Write>(out: &mut W, inputs: Inputs<'_>, name: &[u8]) -> io::Result<()> {
-    let Some((item, path)) = passed_archive(inputs.alloc, inputs.files, inputs.words, name)? else {
-        return Ok(());
-    };
-    let (path, name) = (Name(path.as_bytes()), Name(name));
-    write!(
-        out,
-        "; {path} (item {item}) defines {name}, but was searched before it was needed: name it later, or in a group"
-    )
-}
-
 /// Writes a reference to an undefined name, the first, second or third; behind the first which archive has the name, behind the
 /// third how many more there are.
 fn write_reference<W: Write>(
@@ -70,8 +47,14 @@ fn write_reference<W: Write>(
     number: u64,
     all: u64,
 ) -> io::Result<()> {
-    if number == 1 {
-        write_passed(out, inputs, name)?;
+    if number == 1
+        && let Some((item, path)) = passed_archive(inputs, name)?
+    {
+        let (path, name) = (Name(path.as_bytes()), Name(name));
+        write!(
+            out,
+            "; {path} (item {item}) defines {name}, but was searched before it was needed: name it later, or in a group"
+        )?;
     }
     let rest = all.saturating_sub(REFERENCES);
     if number == REFERENCES && rest > 0 {
@@ -89,17 +72,19 @@ fn write_line<'a, W: Write>(
     told: &mut Counts<'a>,
     place: &Place<'a>,
 ) -> io::Result<bool> {
-    let Some(name) = undefined_name(place) else {
-        writeln!(out, "{}", PlaceText { inputs, place })?;
-        return Ok(true);
+    let name = undefined_name(place);
+    let number = match name {
+        Some(name) => count(told, name)?,
+        None => 0,
     };
-    let number = count(told, name)?;
     if number > REFERENCES {
         return Ok(false);
     }
     write!(out, "{}", PlaceText { inputs, place })?;
-    let all = all.get(name).copied().unwrap_or(0);
-    write_reference(out, inputs, name, number, all)?;
+    if let Some(name) = name {
+        let all = all.get(name).copied().unwrap_or(0);
+        write_reference(out, inputs, name, number, all)?;
+    }
     out.write_all(b"\n")?;
     Ok(true)
 }
@@ -143,8 +128,10 @@ pub fn write_places<W: Write>(
     found: &Found<'_>,
     most: u64,
 ) -> io::Result<()> {
-    let all = references(inputs.alloc, found.places())?;
-    let mut told = BTreeMap::new(inputs.alloc);
+    let (mut all, mut told) = (BTreeMap::new(inputs.alloc), BTreeMap::new(inputs.alloc));
+    for name in found.places().iter().filter_map(undefined_name) {
+        let _ = count(&mut all, name)?;
+    }
     let mut lines: u64 = 0;
     let mut more = found.more();
     for place in found.places() {

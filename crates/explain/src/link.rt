@@ -5,7 +5,6 @@ ghost use Rattle.elf_model.specs.Inputs.Command.{IsBase};
 ghost use Rattle.elf_model.specs.declared.faults.LinkError.TheVariants as link_error;
 ghost use Rattle.elf_model.specs.Inputs.Files.{files_of, words_of};
 ghost use Rattle.elf_model.specs.Link.Pieces.{AreLawfulKinds};
-ghost use Rattle.resolve.specs.Refusals.{ResolvingFails};
 ghost use Rattle.explain.specs.Places.{AreSo, Holds, OfLoaded, OfPlan, Says};
 
 use crate::files::{add_items, add_refused};
@@ -42,27 +41,6 @@ fn add_unloaded<'a>(
         }
         SearchFault::BadObject(_) | SearchFault::Group(_) => {
             add_refused(alloc, found, files, plan)
-        }
-    }
-}
-
-/// Adds why names mean nothing.
-fn add_unresolved<'a>(
-    alloc: Global,
-    found: &mut Found<'a>,
-    loaded: &Loaded<'a>,
-    fault: &ResolveFault,
-) -> Added
-    requires fault { ResolvingFails loaded.now.objects fault.now }
-    requires before { AreSo (OfLoaded loaded.now) found.old.places.items }
-    ensures { OnOk result (AreSo (OfLoaded loaded.now) found.new.places.items) }
-{
-    match fault {
-        ResolveFault::Memory => Err(AllocError),
-        ResolveFault::BadCommon => add_wanted(alloc, found, Wanted::UnsoundCommons, loaded),
-        ResolveFault::BadSymbol => add_wanted(alloc, found, Wanted::UnsoundSymbols, loaded),
-        ResolveFault::Duplicate(name) => {
-            add_wanted(alloc, found, Wanted::Definitions(name), loaded)
         }
     }
 }
@@ -135,7 +113,12 @@ fn add_loaded<'a>(alloc: Global, found: &mut Found<'a>, loaded: &Loaded<'a>) -> 
     };
     match resolve(alloc, loaded) {
         Ok(resolved) => add_unlinked(alloc, found, loaded, &resolved),
-        Err(fault) => add_unresolved(alloc, found, loaded, &fault),
+        Err(ResolveFault::Memory) => Err(AllocError),
+        Err(ResolveFault::BadCommon) => add_wanted(alloc, found, Wanted::UnsoundCommons, loaded),
+        Err(ResolveFault::BadSymbol) => add_wanted(alloc, found, Wanted::UnsoundSymbols, loaded),
+        Err(ResolveFault::Duplicate(name)) => {
+            add_wanted(alloc, found, Wanted::Definitions(&name), loaded)
+        }
     }
 }
 

@@ -1,6 +1,6 @@
 //! The phases of a link: what each error is of, and each place.
 ghost use Rattle.std.specs.Prelude.{◌≡◌};
-ghost use Rattle.explain.specs.Phases.{error_phase, place_phase};
+ghost use Rattle.explain.specs.Places.{error_phase, place_phase};
 
 use crate::place::{Place, SymbolFault};
 use elf_model::LinkError;

@@ -1,7 +1,7 @@
 //! How a place reads: a line that names the object, what is wrong in it, and why.
 
 use crate::place::{ObjectPlace, Place, RelocationPlace, SectionPlace, SymbolFault, SymbolPlace};
-use crate::surroundings::{function_at, object_of, section_of};
+use crate::surroundings::{function_at, section_of};
 use bad_parts::BadPart;
 use command::Source;
 use elf_model::{ArFault, CmdFault, InputFile, LinkError, ObjFault, SHF_LINK_ORDER};
@@ -22,16 +22,11 @@ pub struct Inputs<'i> {
     pub words: &'i [String],
 }
 
-/// A word and a name after a space each, where there is a name.
-#[derive(Clone, Copy)]
-struct Where<'a>(&'static str, Option<&'a [u8]>);
-
-impl fmt::Display for Where<'_> {
-    fn fmt<W: Write>(&self, f: &mut Formatter<W>) -> fmt::Result {
-        match self.1 {
-            Some(name) => write!(f, " {} {}", self.0, Name(name)),
-            None => Ok(()),
-        }
+/// Writes a word and a name after a space each, where there is a name.
+fn write_named<W: Write>(f: &mut Formatter<W>, word: &str, name: Option<&[u8]>) -> fmt::Result {
+    match name {
+        Some(name) => write!(f, " {word} {}", Name(name)),
+        None => Ok(()),
     }
 }
 
@@ -40,13 +35,8 @@ fn names_file(word: &str, path: &str) -> bool {
     let Some(name) = word.strip_prefix("-l") else {
         return word == path;
     };
-    let Some(rest) = path.strip_suffix(".a") else {
-        return false;
-    };
-    match rest.strip_suffix(name) {
-        Some(front) => front.ends_with("/lib"),
-        None => false,
-    }
+    let front = path.strip_suffix(".a").and_then(|p| p.strip_suffix(name));
+    front.is_some_and(|front| front.ends_with("/lib"))
 }
 
 /// What avoids flags that are not linked.
@@ -95,27 +85,22 @@ fn hint(kind: u32, fault: RelocationFault) -> &'static str {
     }
 }
 
-/// Which values fit the field of a type of relocations.
-#[derive(Clone, Copy)]
-struct Fitting(Kind);
-
-impl fmt::Display for Fitting {
-    fn fmt<W: Write>(&self, f: &mut Formatter<W>) -> fmt::Result {
-        let (low, half, whole): (u64, u64, u64) = match self.0.width {
-            1 => (0x80, 0x7f, 0xff),
-            2 => (0x8000, 0x7fff, 0xffff),
-            _ => (0x8000_0000, 0x7fff_ffff, 0xffff_ffff),
-        };
-        match self.0.range {
-            Range::Always => Ok(()),
-            Range::Signed => write!(f, ", which takes -{low:#x} to {half:#x}"),
-            Range::Unsigned => write!(f, ", which takes 0 to {whole:#x}"),
-            Range::Either => write!(f, ", which takes -{low:#x} to {whole:#x}"),
-        }?;
-        match self.0.width {
-            4 => f.write_str("; code of -mcmodel=large has no such limit"),
-            _ => Ok(()),
-        }
+/// Writes which values fit the field of a type of relocations.
+fn write_fitting<W: Write>(f: &mut Formatter<W>, kind: Kind) -> fmt::Result {
+    let (low, half, whole): (u64, u64, u64) = match kind.width {
+        1 => (0x80, 0x7f, 0xff),
+        2 => (0x8000, 0x7fff, 0xffff),
+        _ => (0x8000_0000, 0x7fff_ffff, 0xffff_ffff),
+    };
+    match kind.range {
+        Range::Always => Ok(()),
+        Range::Signed => write!(f, ", which takes -{low:#x} to {half:#x}"),
+        Range::Unsigned => write!(f, ", which takes 0 to {whole:#x}"),
+        Range::Either => write!(f, ", which takes -{low:#x} to {whole:#x}"),
+    }?;
+    match kind.width {
+        4 => f.write_str("; code of -mcmodel=large has no such limit"),
+        _ => Ok(()),
     }
 }
 
@@ -152,7 +137,7 @@ impl Inputs<'_> {
         f.write_str(": ")
     }
 
-    /// A section, and what the flags of its kind say or how large it is.
+    /// A section, in front of what is wrong with it.
     fn section<W: Write>(self, f: &mut Formatter<W>, place: &SectionPlace<'_>) -> fmt::Result {
         self.file(f, &place.file)?;
         write!(f, "section {} {}: ", place.section, Name(place.name))
@@ -161,10 +146,8 @@ impl Inputs<'_> {
     fn symbol<W: Write>(self, f: &mut Formatter<W>, place: &SymbolPlace<'_>) -> fmt::Result {
         self.file(f, &place.file)?;
         write!(f, "symbol {}{}", place.symbol, Called(place.name))?;
-        if let Some(object) = object_of(self.alloc, self.files, &place.file) {
-            let section = section_of(&object, place.symbol as usize);
-            write!(f, "{}", Where("of", section))?;
-        }
+        let section = section_of(self, &place.file, place.symbol as usize);
+        write_named(f, "of", section)?;
         f.write_str(": ")
     }
 
@@ -173,10 +156,8 @@ impl Inputs<'_> {
         self.file(f, &place.file)?;
         let offset = place.at.entry.r_offset;
         write!(f, "{}+{offset:#x}", Name(place.at.section_name))?;
-        if let Some(object) = object_of(self.alloc, self.files, &place.file) {
-            let function = function_at(&object, place.at.section, offset);
-            write!(f, "{}", Where("in", function))?;
-        }
+        let function = function_at(self, &place.file, place.at.section, offset);
+        write_named(f, "in", function)?;
         f.write_str(": ")
     }
 
@@ -189,11 +170,8 @@ impl Inputs<'_> {
         named: bool,
     ) -> fmt::Result {
         write!(f, "{}", RelocationEntry(&place.at, named))?;
-        let Some(object) = object_of(self.alloc, self.files, &place.file) else {
-            return Ok(());
-        };
-        let section = section_of(&object, place.at.entry.symbol() as usize);
-        write!(f, "{}", Where("of", section))
+        let symbol = place.at.entry.symbol() as usize;
+        write_named(f, "of", section_of(self, &place.file, symbol))
     }
 
     /// Which entry a relocation is, behind what is wrong with it.
@@ -222,10 +200,7 @@ impl Inputs<'_> {
 
     /// What a file is that is no object or no archive, where its first bytes tell.
     fn kind<W: Write>(self, f: &mut Formatter<W>, place: &ObjectPlace<'_>) -> fmt::Result {
-        let Some(bytes) = object_bytes(self.files, place.path, place.offset) else {
-            return Ok(());
-        };
-        match file_kind(bytes) {
+        match object_bytes(self.files, place.path, place.offset).and_then(file_kind) {
             Some(kind) => write!(f, ": {kind}"),
             None => Ok(()),
         }
@@ -240,13 +215,11 @@ impl Inputs<'_> {
         part: &Option<BadPart<'_>>,
     ) -> fmt::Result {
         self.file(f, place)?;
-        match part {
-            Some(part) => write!(f, "{fault}: {part}"),
-            None => {
-                write!(f, "{fault}: {}", object_text(fault))?;
-                self.kind(f, place)
-            }
+        if let Some(part) = part {
+            return write!(f, "{fault}: {part}");
         }
+        write!(f, "{fault}: {}", object_text(fault))?;
+        self.kind(f, place)
     }
 }
 
@@ -259,19 +232,11 @@ fn write_missing<W: Write>(f: &mut Formatter<W>, number: u64, source: Source<'_>
         }
         Source::Library(name) => {
             let name = Name(name.as_bytes());
-            write!(f, "-l{name}: item {number}: ")?;
-            write!(f, "no directory of -L has lib{name}.a")
+            write!(
+                f,
+                "-l{name}: item {number}: no directory of -L has lib{name}.a"
+            )
         }
-    }
-}
-
-/// An error of which no single place is told.
-fn write_refused<W: Write>(f: &mut Formatter<W>, error: &LinkError) -> fmt::Result {
-    match error {
-        LinkError::TooLarge => f.write_str(
-            "all together: the addresses end above 2^46, or the image has 2^32 bytes or more",
-        ),
-        _ => write!(f, "all together: {error}"),
     }
 }
 
@@ -283,10 +248,57 @@ pub struct PlaceText<'i, 'p, 'a> {
 }
 
 impl PlaceText<'_, '_, '_> {
-    /// A place of the files.
-    fn input<W: Write>(&self, f: &mut Formatter<W>) -> fmt::Result {
+    /// A place of sections, symbols or relocations.
+    fn linked<W: Write>(&self, f: &mut Formatter<W>) -> fmt::Result {
         let inputs = self.inputs;
         match self.place {
+            Place::Section(place) => {
+                inputs.section(f, place)?;
+                let (kind, flags) = (place.header.sh_type, place.header.sh_flags);
+                write!(f, "{}, {}: ", SectionType(kind), SectionFlags(flags))?;
+                write!(f, "not linked{}", section_hint(flags))
+            }
+            Place::Large(place) => {
+                inputs.section(f, place)?;
+                let size = place.header.sh_size;
+                write!(f, "{size:#x} bytes, more than the addresses ")?;
+                f.write_str("from the base on up to 2^46")
+            }
+            Place::Symbol(place, fault) => {
+                inputs.symbol(f, place)?;
+                f.write_str(symbol_text(*fault))
+            }
+            Place::Relocation(place, fault) => {
+                inputs.field(f, place)?;
+                let hint = hint(place.at.entry.kind(), *fault);
+                write!(f, "{}{hint}", FaultOf(fault_of(*fault), &place.at))?;
+                inputs.note(f, place)
+            }
+            Place::Overlap(first, second) => {
+                inputs.whole(f, first)?;
+                f.write_str(": its field shares a byte with that of ")?;
+                inputs.whole(f, second)
+            }
+            Place::Value(place, value, address) => {
+                inputs.field(f, place)?;
+                let symbol = RelocationSymbol(&place.at);
+                write!(f, "the value {value:#x} for {symbol} does not fit the ")?;
+                write!(f, "field at {address:#x}")?;
+                if let Some(kind) = Kind::of(place.at.entry.kind()) {
+                    write_fitting(f, kind)?;
+                }
+                inputs.note(f, place)
+            }
+            _ => Ok(()),
+        }
+    }
+}
+
+impl fmt::Display for PlaceText<'_, '_, '_> {
+    fn fmt<W: Write>(&self, f: &mut Formatter<W>) -> fmt::Result {
+        let inputs = self.inputs;
+        match self.place {
+            Place::Word(number, fault) => inputs.word(f, *number, *fault),
             Place::Missing(number, source) => write_missing(f, *number, *source),
             Place::Archive(file, fault) => {
                 inputs.file(f, file)?;
@@ -305,83 +317,14 @@ impl PlaceText<'_, '_, '_> {
                 inputs.file(f, file)?;
                 write!(f, "{fault}")
             }
-            _ => Ok(()),
-        }
-    }
-
-    /// A place of sections, symbols or relocations.
-    fn linked<W: Write>(&self, f: &mut Formatter<W>) -> fmt::Result {
-        let inputs = self.inputs;
-        match self.place {
-            Place::Section(place) => {
-                inputs.section(f, place)?;
-                let (kind, flags) = (place.header.sh_type, place.header.sh_flags);
-                let (hint, kind, flags) = (
-                    section_hint(flags),
-                    SectionType(kind),
-                    SectionFlags(flags),
-                );
-                write!(f, "{kind}, {flags}: not linked{hint}")
+            Place::Entry(name) => {
+                write!(f, "the entry {} has no definition ", Name(name.as_bytes()))?;
+                f.write_str("outside thread-local storage")
             }
-            Place::Large(place) => {
-                inputs.section(f, place)?;
-                let size = place.header.sh_size;
-                write!(f, "{size:#x} bytes, more than the addresses ")?;
-                f.write_str("from the base on up to 2^46")
-            }
-            Place::Symbol(place, fault) => {
-                inputs.symbol(f, place)?;
-                f.write_str(symbol_text(*fault))
-            }
-            _ => self.relocated(f),
-        }
-    }
-
-    /// A place of relocations.
-    fn relocated<W: Write>(&self, f: &mut Formatter<W>) -> fmt::Result {
-        let inputs = self.inputs;
-        match self.place {
-            Place::Relocation(place, fault) => {
-                inputs.field(f, place)?;
-                let hint = hint(place.at.entry.kind(), *fault);
-                write!(f, "{}{hint}", FaultOf(fault_of(*fault), &place.at))?;
-                inputs.note(f, place)
-            }
-            Place::Overlap(first, second) => {
-                inputs.whole(f, first)?;
-                f.write_str(": its field shares a byte with that of ")?;
-                inputs.whole(f, second)
-            }
-            Place::Value(place, value, address) => {
-                inputs.field(f, place)?;
-                let symbol = RelocationSymbol(&place.at);
-                write!(f, "the value {value:#x} for {symbol} does not fit the ")?;
-                write!(f, "field at {address:#x}")?;
-                if let Some(kind) = Kind::of(place.at.entry.kind()) {
-                    write!(f, "{}", Fitting(kind))?;
-                }
-                inputs.note(f, place)
-            }
-            _ => Ok(()),
-        }
-    }
-}
-
-impl fmt::Display for PlaceText<'_, '_, '_> {
-    fn fmt<W: Write>(&self, f: &mut Formatter<W>) -> fmt::Result {
-        match self.place {
-            Place::Word(number, fault) => self.inputs.word(f, *number, *fault),
-            Place::Refused(error) => write_refused(f, error),
-            Place::Entry(name) => write!(
-                f,
-                "the entry {} has no definition outside thread-local storage",
-                Name(name.as_bytes())
+            Place::Refused(LinkError::TooLarge) => f.write_str(
+                "all together: the addresses end above 2^46, or the image has 2^32 bytes or more",
             ),
-            Place::Missing(_, _)
-            | Place::Archive(_, _)
-            | Place::NoIndex(_)
-            | Place::Object(_, _, _)
-            | Place::Groups(_, _) => self.input(f),
+            Place::Refused(error) => write!(f, "all together: {error}"),
             _ => self.linked(f),
         }
     }

@@ -3,7 +3,7 @@ ghost use Rattle.std.specs.Prelude.{OnOk};
 ghost use Rattle.explain.specs.Places.{AreSo, OfLoaded};
 ghost use Rattle.explain.specs.Wanted.{MayBeAsked};
 
-use crate::entries::{entries_by_field, kept_entries};
+use crate::entries::kept_entries;
 use crate::found::{Added, Found};
 use crate::judged::{object_at, overlap, unfit_entry, unlawful_entry, wrong_section, wrong_symbol};
 use got_tls::Slots;
@@ -74,7 +74,8 @@ fn add_object<'a>(
             Ok(())
         }
         Wanted::Overlaps => {
-            let entries = entries_by_field(alloc, one)?;
+            let mut entries = kept_entries(alloc, one)?;
+            entries.sort_by_key(|e| (e.section, e.offset))?;
             for i in 1..entries.len() {
                 found.add(overlap(loaded, k, &entries[i - 1], &entries[i]))?;
             }

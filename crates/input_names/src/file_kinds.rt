@@ -20,30 +20,29 @@ static MAGICS: [(&[u8], &str); 11] = [
     (b"\x7fELF\x01", "an ELF file of 32 bits"),
 ];
 
-/// The number in two bytes of a file, least significant byte first; 0 where the file has none there.
-fn word_at(file: &[u8], at: usize) -> u16 {
-    let low = file.get(at).copied().unwrap_or(0);
-    let high = file.get(at.saturating_add(1)).copied().unwrap_or(0);
-    u16::from(low) | (u16::from(high) << 8)
-}
+/// What an ELF file of 64 bits is, where it has these bytes at an offset: by its machine (e_machine), where that isn't x86-64,
+/// or by its type (e_type) before it.
+static ELF_KINDS: [(usize, &[u8], &str); 9] = [
+    (18, b"\x08\0", "for MIPS"),
+    (18, b"\x15\0", "for PowerPC of 64 bits"),
+    (18, b"\x16\0", "for S390"),
+    (18, b"\xb7\0", "for AArch64"),
+    (18, b"\xf3\0", "for RISC-V"),
+    (18, b"\x02\x01", "for LoongArch"),
+    (16, b"\x02\0\x3e\0", "an executable"),
+    (
+        16,
+        b"\x03\0\x3e\0",
+        "a shared object, or a position-independent executable",
+    ),
+    (16, b"\x04\0\x3e\0", "a core file"),
+];
 
-/// What an ELF file of 64 bits is by its machine (e_machine), where that isn't x86-64, or by its type (e_type).
-fn elf_kind(file: &[u8]) -> Option<&'static str> {
-    match word_at(file, 18) {
-        62 => {}
-        8 => return Some("for MIPS"),
-        21 => return Some("for PowerPC of 64 bits"),
-        22 => return Some("for S390"),
-        183 => return Some("for AArch64"),
-        243 => return Some("for RISC-V"),
-        258 => return Some("for LoongArch"),
-        _ => return None,
-    }
-    match word_at(file, 16) {
-        2 => Some("an executable"),
-        3 => Some("a shared object, or a position-independent executable"),
-        4 => Some("a core file"),
-        _ => None,
+/// Whether a file has bytes at an offset.
+fn has_at(file: &[u8], at: usize, bytes: &[u8]) -> bool {
+    match file.get(at..) {
+        Some(rest) => rest.starts_with(bytes),
+        None => false,
     }
 }
 
@@ -65,7 +64,8 @@ pub fn file_kind(file: &[u8]) -> Option<&'static str> {
         }
     }
     if file.starts_with(b"\x7fELF") {
-        return elf_kind(file);
+        let mut kinds = ELF_KINDS.iter();
+        return Some(kinds.find(|kind| has_at(file, kind.0, kind.1))?.2);
     }
     if is_text(file) {
         return Some("a text, as a source or a linker script");

@@ -15,46 +15,19 @@ fn part(file: &[u8], from: usize, len: usize) -> Option<&[u8]> {
 
 /// The number that decimal digits spell, as far as they go.
 fn number(digits: &[u8]) -> usize {
-    let mut value: usize = 0;
-    for digit in digits {
-        if !digit.is_ascii_digit() {
-            break;
-        }
-        value = value
+    let digits = digits.iter().take_while(|digit| digit.is_ascii_digit());
+    digits.fold(
+        0,
+        |value: usize, digit| value
             .saturating_mul(10)
-            .saturating_add(usize::from(digit.wrapping_sub(b'0')));
-    }
-    value
-}
-
-/// The bytes before a byte that ends them, all where there is none.
-fn before(bytes: &[u8], end: u8) -> &[u8] {
-    match bytes.iter().position(|b| *b == end) {
-        Some(place) => bytes.split_at(place).0,
-        None => bytes,
-    }
+            .saturating_add(usize::from(digit.wrapping_sub(b'0'))),
+    )
 }
 
 /// A name without the slash that ends it, where one does, and without what comes behind the slash.
 fn without_slash(name: &[u8]) -> Option<&[u8]> {
     let place = name.iter().rposition(|b| *b == b'/')?;
-    Some(name.split_at(place).0)
-}
-
-/// A name without the spaces behind it.
-fn trimmed(name: &[u8]) -> &[u8] {
-    match name.iter().rposition(|b| *b != b' ') {
-        Some(place) => name.split_at(place).0,
-        None => &[],
-    }
-}
-
-/// Where the header of the next member is, behind that at an offset.
-fn next_header(file: &[u8], at: usize) -> Option<usize> {
-    let size = number(part(file, at.checked_add(SIZE_AT)?, 10)?);
-    at.checked_add(HEADER_SIZE)?
-        .checked_add(size)?
-        .checked_add(size % 2)
+    name.get(..place)
 }
 
 /// The data of the member whose header is at an offset.
@@ -67,19 +40,24 @@ pub fn member_data(file: &[u8], at: usize) -> Option<&[u8]> {
 fn long_names(file: &[u8]) -> Option<&[u8]> {
     let mut at = MAGIC_SIZE;
     for _ in 0..file.len() {
+        let names = member_data(file, at)?;
         if part(file, at, 16)?.starts_with(b"// ") {
-            return member_data(file, at);
+            return Some(names);
         }
-        at = next_header(file, at)?;
+        let size = HEADER_SIZE.checked_add(names.len())?;
+        at = at.checked_add(size)?.checked_add(size % 2)?;
     }
     None
 }
 
 /// A long name, by its offset among them: the text up to the slash before a line feed.
 fn long_name(file: &[u8], place: usize) -> Option<&[u8]> {
-    let names = long_names(file)?;
-    let (_, rest) = names.split_at_checked(place)?;
-    let line = before(rest, b'\n');
+    let names = long_names(file)?.get(place..)?;
+    let end = names
+        .iter()
+        .position(|b| *b == b'\n')
+        .unwrap_or(names.len());
+    let line = names.get(..end)?;
     Some(without_slash(line).unwrap_or(line))
 }
 
@@ -90,5 +68,5 @@ pub fn member_name(file: &[u8], offset: u64) -> Option<&[u8]> {
     if *first == b'/' {
         return long_name(file, number(rest));
     }
-    Some(without_slash(name).unwrap_or(trimmed(name)))
+    Some(without_slash(name).unwrap_or(name.trim_ascii_end()))
 }

@@ -1,7 +1,7 @@
 //! Places of kept relocations, and whether the fields of two share a byte.
 ghost use Rattle.std.specs.Prelude.{◌≡◌, [], IsTrue, unwrap_or};
 ghost use Rattle.elf_model.specs.Inputs.ObjectFile.{rela_symbol, section_name, symbol_name};
-ghost use Rattle.input_names.specs.RelocationPlaces.{AreTwo, BeginsIn};
+ghost use Rattle.input_names.specs.RelocationPlaces.{BeginsIn};
 
 use elf_model::{Rela, SectionHeader};
 use elf_read::ObjectFile;
@@ -26,10 +26,7 @@ pub struct RelocationPlace<'a> {
 pub fn section_name<'a>(object: &ObjectFile<'a>, i: usize) -> &'a [u8]
     ensures { result.now ≡ unwrap_or (section_name object.now i) [] }
 {
-    match object.section_name(i) {
-        Some(name) => name,
-        None => &[],
-    }
+    object.section_name(i).unwrap_or(&[])
 }
 
 /// The place of entry `e` of RELA section `i`, which has the header, of object `number`.
@@ -62,13 +59,6 @@ pub fn relocation_place<'a>(
     }
 }
 
-/// Whether two places of one object are those of two entries.
-fn are_two(first: &RelocationPlace<'_>, second: &RelocationPlace<'_>) -> bool
-    ensures { IsTrue result → AreTwo first.now second.now }
-{
-    first.table != second.table || first.number != second.number
-}
-
 /// Whether the field of a relocation begins inside that of another one, in the same section; both have widths in bytes.
 pub fn begins_in(
     first: &RelocationPlace<'_>,
@@ -81,7 +71,7 @@ pub fn begins_in(
     if first.object != second.object || first.section != second.section {
         return false;
     }
-    if !are_two(first, second) {
+    if first.table == second.table && first.number == second.number {
         return false;
     }
     let from = first.entry.r_offset;

@@ -77,12 +77,10 @@ impl fmt::Display for ObjectName<'_> {
         if offset == 0 {
             return Ok(());
         }
-        match file_named(self.files, self.path) {
-            Some(file) => {
-                let name = member_name(file, offset).unwrap_or(&[]);
-                write!(f, "({} at {offset:#x})", Name(name))
-            }
-            None => write!(f, "(at {offset:#x})"),
-        }
+        let Some(file) = file_named(self.files, self.path) else {
+            return write!(f, "(at {offset:#x})");
+        };
+        let name = Name(member_name(file, offset).unwrap_or(&[]));
+        write!(f, "({name} at {offset:#x})")
     }
 }

@@ -15,15 +15,8 @@ returns c =
     let i = c.args.at.now.table in
     let j = c.args.at.now.number in
     let e = c.relocation_place.ensures in
-    let has : HasNumbers p o h k i j x = record {
-      object = e.object;
-      table = e.table;
-      number = e.number;
-      entry = e.entry;
-      section = e.section;
-      section_name = e.section_name;
-      symbol_name = e.symbol_name;
-    } in
+    let has : HasNumbers p o h k i j x =
+    record { object = e.object; table = e.table; number = e.number; entry = e.entry; section = e.section; section_name = e.section_name; symbol_name = e.symbol_name } in
     let is_kept = sym c.is_kept_rela.ensures ∙ c.if-not-is_kept_rela.false in
     let some = sym c.is_some_kind.ensures ∙ c.if-not-is_some_kind.false in
     record {

@@ -5,7 +5,7 @@ use Rattle.elf_model.specs.Inputs.Command.{Plan}
 use Rattle.elf_model.specs.Inputs.Opening.{Opened, opened_item}
 use Rattle.opening.specs.Opened.{found_view}
 use Rattle.opening.proofs.OpenedLaws.{opened_is}
-use Rattle.explain.proofs.OpenedItems.{opened_at}
+use Rattle.explain.proofs.Told.{opened_at}
 use Rattle.explain.proofs.files.wrong_item.Goals as goal
 
 pub returns : goal.returns
