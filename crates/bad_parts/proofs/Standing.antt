@@ -1,6 +1,6 @@
 -- Where a file has a bad part, the part's fault stands.
 use Rattle.std.proofs.Common.{inl, inr, ◌≡◌, ◌∙◌, ◌<◌, ◌==◌, ℕ, Bool, List, Option, None, Some, All, IfSome, true, arith, length, refl, subst, sym}
-use Rattle.std.specs.List.{Any, slice_get}
+use Rattle.std.specs.List.{slice_get}
 use Rattle.std.proofs.lemmas.List.Elements.{All-contains}
 use Rattle.std.proofs.lemmas.Option.{get_or_from_slice_get, slice_get_within}
 use Rattle.byteview.specs.Numbers.{HasText}

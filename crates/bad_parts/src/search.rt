@@ -2,9 +2,9 @@
 ghost use Rattle.std.specs.Prelude.{IfOk, IfSome};
 ghost use Rattle.elf_model.specs.Inputs.ObjectFile.{ObjFaultStands};
 ghost use Rattle.elf_model.specs.declared.faults.ObjFault.TheVariants as fault;
-ghost use Rattle.bad_parts.specs.BadParts.{IsBadOf, IsOfType};
+ghost use Rattle.bad_parts.specs.BadParts.{IsBadOf};
 
-use crate::part::{BadPart, SectionPart};
+use crate::part::BadPart;
 use crate::tables::{Tables, WORD_SIZE};
 use byteview::View;
 use elf_model::{
@@ -47,22 +47,6 @@ fn bad_section<'a>(tables: &Tables<'a>, fault: ObjFault, i: usize) -> Option<Bad
     }
 }
 
-/// A symbol table, where it is behind the first one.
-fn second_table<'a>(tables: &Tables<'a>, second: SectionPart<'a>) -> Option<BadPart<'a>>
-    requires { IsOfType tables.now 2 second }
-    ensures { IfSome result (IsBadOf tables.now fault.BadSymbolTable) }
-{
-    let number = tables
-        .sections()
-        .iter()
-        .position(|header| header.sh_type == SHT_SYMTAB)?;
-    let first = tables.section(number)?;
-    if first.header.sh_type != SHT_SYMTAB || first.number >= second.number {
-        return None;
-    }
-    Some(BadPart::SecondTable(first, second))
-}
-
 /// Section `i`, where it has a fault beside what else there is: it is a second symbol table, or lists a group whose signature
 /// isn't there.
 fn bad_link<'a>(tables: &Tables<'a>, fault: ObjFault, i: usize) -> Option<BadPart<'a>>
@@ -70,7 +54,14 @@ fn bad_link<'a>(tables: &Tables<'a>, fault: ObjFault, i: usize) -> Option<BadPar
 {
     let part = tables.section(i)?;
     match (fault, part.header.sh_type) {
-        (ObjFault::BadSymbolTable, SHT_SYMTAB) => second_table(tables, part),
+        (ObjFault::BadSymbolTable, SHT_SYMTAB) => {
+            let mut headers = tables.sections().iter();
+            let first = tables.section(headers.position(|h| h.sh_type == SHT_SYMTAB)?)?;
+            if first.header.sh_type != SHT_SYMTAB || first.number >= part.number {
+                return None;
+            }
+            Some(BadPart::SecondTable(first, part))
+        }
         (ObjFault::BadGroup, SHT_GROUP) => {
             if (part.header.sh_info as usize) < tables.symbols()?.len() {
                 return None;

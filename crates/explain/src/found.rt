@@ -1,21 +1,14 @@
 //! The places that were found so far: the first of them, and how many more there are.
-ghost use Rattle.std.specs.Prelude.{◌≡◌, ◌≢◌, ◌<◌, ◌≤◌, [], All, IfOk, IfSome, IsTrue, List, OnOk, length, ℕ};
+ghost use Rattle.std.specs.Prelude.{◌≡◌, ◌≢◌, ◌<◌, ◌≤◌, [], All, IfOk, IfSome, List, OnOk, length, ℕ};
 ghost use Rattle.elf_model.specs.Inputs.Files.{File};
 ghost use Rattle.elf_model.specs.Own.Causes.{Cause};
 ghost use Rattle.elf_model.specs.declared.faults.LinkError.TheVariants as link_error;
-ghost use Rattle.explain.specs.Places.{AreSo, Ground, Holds, IsSo, Says, place_phase};
+ghost use Rattle.explain.specs.Places.{AreSo, Ground, Holds, IsSo, Says};
 
-use crate::phase::{Phase, phase_of};
+use crate::phase::phase_of;
 use crate::place::Place;
 use elf_model::LinkError;
 use std::alloc::{AllocError, Global};
-
-/// Whether a place is of a phase.
-fn is_of(place: &Place<'_>, phase: Phase) -> bool
-    ensures { IsTrue result → place_phase place.now ≡ phase }
-{
-    place.phase() == phase
-}
 
 /// Whether there was memory for what was to be added.
 pub(crate) type Added = Result<(), AllocError>;
@@ -68,7 +61,7 @@ impl<'a> Found<'a> {
         let Found { places, more, .. } = self;
         let mut places = places;
         let phase = phase_of(error);
-        places.retain(|place| is_of(place, phase));
+        places.retain(|place| place.phase() == phase);
         places.truncate(most);
         if !places.is_empty() || most == 0 {
             return Ok(Found { places, more, most });

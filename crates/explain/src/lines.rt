@@ -91,10 +91,7 @@ fn write_line<'a, W: Write>(
 
 /// Whether a place asks for a definition that no object has.
 fn asks_for_code(place: &Place<'_>) -> bool {
-    match place {
-        Place::Entry(_) => true,
-        _ => undefined_name(place).is_some(),
-    }
+    matches!(place, Place::Entry(_)) || undefined_name(place).is_some()
 }
 
 /// Whether an object file has a symbol by which gcc says that it has no code, only data for optimization at link time.

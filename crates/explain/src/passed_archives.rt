@@ -11,10 +11,10 @@ use std::alloc::{AllocError, Global};
 /// Whether the index of an archive has a name.
 fn has_name(alloc: Global, file: &[u8], name: &[u8]) -> Result<bool, AllocError> {
     match Archive::read(alloc, View::new(file)) {
-        Ok(archive) => Ok(match archive.index() {
-            Some(entries) => entries.iter().any(|entry| entry.name() == name),
-            None => false,
-        }),
+        Ok(archive) => {
+            let entries = archive.index().unwrap_or(&[]);
+            Ok(entries.iter().any(|entry| entry.name() == name))
+        }
         Err(ArFault::Memory) => Err(AllocError),
         Err(_) => Ok(false),
     }

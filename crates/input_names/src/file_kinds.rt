@@ -38,12 +38,12 @@ static ELF_KINDS: [(usize, &[u8], &str); 9] = [
     (16, b"\x04\0\x3e\0", "a core file"),
 ];
 
-/// Whether a file has bytes at an offset.
-fn has_at(file: &[u8], at: usize, bytes: &[u8]) -> bool {
-    match file.get(at..) {
-        Some(rest) => rest.starts_with(bytes),
-        None => false,
-    }
+fn elf_kind(file: &[u8]) -> Option<&'static str> {
+    let mut kinds = ELF_KINDS.iter();
+    let kind = kinds.find(|kind| file
+        .get(kind.0..)
+        .is_some_and(|rest| rest.starts_with(kind.1)))?;
+    Some(kind.2)
 }
 
 /// Whether the first bytes of a file are a text.
@@ -64,8 +64,7 @@ pub fn file_kind(file: &[u8]) -> Option<&'static str> {
         }
     }
     if file.starts_with(b"\x7fELF") {
-        let mut kinds = ELF_KINDS.iter();
-        return Some(kinds.find(|kind| has_at(file, kind.0, kind.1))?.2);
+        return elf_kind(file);
     }
     if is_text(file) {
         return Some("a text, as a source or a linker script");

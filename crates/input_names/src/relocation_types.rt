@@ -13,22 +13,10 @@ static NAMES: [&str; 6] = [
     "PLT32_BND GOTPCRELX REX_GOTPCRELX",
 ];
 
+/// The name of a type; None where the psABI has none.
 fn name_of(number: u32) -> Option<&'static str> {
     let row = NAMES.get(number as usize / 8)?;
     row.split(' ').nth(number as usize % 8)
-}
-
-/// A type of relocations, by its name; by its number where the psABI has none.
-#[derive(Clone, Copy)]
-struct RelocationType(u32);
-
-impl fmt::Display for RelocationType {
-    fn fmt<W: fmt::Write>(&self, f: &mut fmt::Formatter<W>) -> fmt::Result {
-        match name_of(self.0) {
-            Some(name) => write!(f, "R_X86_64_{name}"),
-            None => write!(f, "type {}", self.0),
-        }
-    }
 }
 
 /// A relocation, which reads as its number, that of its section, its type, the number of its symbol and, where this is wanted,
@@ -39,13 +27,14 @@ pub struct RelocationEntry<'p, 'a>(pub &'p RelocationPlace<'a>, pub bool);
 impl fmt::Display for RelocationEntry<'_, '_> {
     fn fmt<W: fmt::Write>(&self, f: &mut fmt::Formatter<W>) -> fmt::Result {
         let place = self.0;
-        let (table, number, symbol) = (place.table, place.number, place.entry.symbol());
-        let kind = RelocationType(place.entry.kind());
+        let (table, number, kind) = (place.table, place.number, place.entry.kind());
+        write!(f, "relocation {number} of section {table}, ")?;
+        match name_of(kind) {
+            Some(name) => write!(f, "R_X86_64_{name}"),
+            None => write!(f, "type {kind}"),
+        }?;
         let name = Called(if self.1 { place.symbol_name } else { &[] });
-        write!(
-            f,
-            "relocation {number} of section {table}, {kind}, to symbol {symbol}{name}"
-        )
+        write!(f, ", to symbol {}{name}", place.entry.symbol())
     }
 }
 

@@ -1,5 +1,5 @@
 use Rattle.std.proofs.Common.{ℕ, refl, subst}
-use Rattle.elf_model.specs.Link.Relocation.{Relocation, relocation_of, width_of}
+use Rattle.elf_model.specs.Link.Relocation.{relocation_of, width_of}
 use Rattle.search.specs.Views.{loaded_view}
 use Rattle.input_names.proofs.Overlapping.{not_apart}
 use Rattle.input_names.specs.RelocationPlaces.{BeginsIn}
