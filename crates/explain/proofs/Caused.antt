@@ -27,53 +27,13 @@ use Rattle.relocate.specs.References.{IsUnlawful}
 use Rattle.relocate.specs.declared.faults.RelocationFault.{RelocationFault}
 use Rattle.relocate.specs.declared.faults.RelocationFault.TheVariants as wrong
 use Rattle.explain.specs.Places as places
-use Rattle.explain.specs.Places.{CauseOf, HasFault, Holds, IsFileOf, IsLoadedBy, IsWrongRelocation, Says, error_phase, place_phase}
+use Rattle.explain.specs.Places.{CauseOf, HasFault, Holds, IsFileOf, IsLoadedBy, IsWrongRelocation, Given, Says, place_phase}
 use Rattle.explain.specs.declared.phase.Phase.{Phase}
 use Rattle.explain.specs.declared.phase.Phase.TheVariants as phase
 use Rattle.explain.specs.declared.place.Place.{Place}
 use Rattle.explain.specs.declared.place.Place.TheVariants as place
 use Rattle.explain.specs.declared.place.RelocationPlace.{RelocationPlace}
 use Rattle.explain.specs.declared.place.SymbolFault.TheVariants as symbol_fault
-
--- what the cause of an error gives of its phase
-abbrev pub Given : List File → List (List ℕ) → Phase → Type 0
-Given files words phase.None = ⊥
-Given files words phase.Words = Unit {0}
-Given files words phase.Files = Cause files words error.FileMissing
-Given files words phase.Archives = (p : Plan) × HasFiles files words p
-Given files words phase.Objects = Unit {0}
-Given files words phase.Kinds = Cause files words error.SectionKind
-Given files words phase.Commons = Cause files words error.BadCommon
-Given files words phase.Symbols = Cause files words error.BadSymbol
-Given files words phase.Definitions = (p : Plan) × HasObjects files words p
-Given files words phase.References = (p : Plan) × IsResolved files words p
-Given files words phase.Overlaps = Cause files words error.OverlappingFields
-Given files words phase.Entry = Cause files words error.NoEntry
-Given files words phase.Room = Cause files words error.TooLarge
-Given files words phase.Values = Cause files words error.Overflow
-
-pub given : (files : List File) (words : List (List ℕ)) (e : LinkError) → e ≢ error.Memory → Cause files words e → Given files words (error_phase e)
-given files words error.Memory some c = absurd (some refl)
-given files words (error.Command f) some c = tt
-given files words error.FileMissing some c = c
-given files words (error.BadArchive f) some c = (c.0, c.1)
-given files words error.NoIndex some c = (c.0, c.1)
-given files words (error.BadObject f) some c = tt
-given files words (error.BadGroup f) some c = tt
-given files words error.SectionKind some c = c
-given files words error.BadCommon some c = c
-given files words error.BadSymbol some c = c
-given files words (error.Duplicate name) some c = (c.0, c.1)
-given files words (error.Undefined name) some c = (c.0, c.1)
-given files words error.RefToDropped some c = (c.0, c.1)
-given files words error.RelocKind some c = (c.0, c.1)
-given files words error.FieldOutside some c = (c.0, c.1)
-given files words error.TlsMismatch some c = (c.0, c.1)
-given files words error.MixedSection some c = (c.0, c.1)
-given files words error.OverlappingFields some c = c
-given files words error.NoEntry some c = c
-given files words error.TooLarge some c = c
-given files words error.Overflow some c = c
 
 -- the plan of a phase is that of a place, and so is what it loads
 one_plan : (words : List (List ℕ)) (p q : Plan) → command_of words ≡ Ok p → command_of words ≡ Ok q → p ≡ q
@@ -167,20 +127,20 @@ caused files words (place.Entry name) g s = g
 caused files words (place.Refused e) g s = absurd g
 
 all_hold :
-    (files : List File) (words : List (List ℕ)) (e : LinkError) (xs : List Place) → e ≢ error.Memory → Cause files words e →
-    All (λ p. place_phase p ≡ error_phase e) xs → All (Says files words) xs → All (Holds files words) xs
-all_hold files words e xs some c of says = λ i d within.
+    (files : List File) (words : List (List ℕ)) (ph : Phase) (xs : List Place) → Given files words ph → All (λ p. place_phase p ≡ ph) xs →
+    All (Says files words) xs → All (Holds files words) xs
+all_hold files words ph xs g of says = λ i d within.
     let p = get_or xs i d in
-    record { says = says i d within; cause = caused files words p (subst (Given files words) (sym (of i d within)) (given files words e some c)) (says i d within) }
+    record { says = says i d within; cause = caused files words p (subst (Given files words) (sym (of i d within)) g) (says i d within) }
 
 -- the first of those places that are of the phase hold too
 pub all_kept :
-    {F : Type 0} (R : F → Place → Bool → F → Type 0) (f : F) (files : List File) (words : List (List ℕ)) (e : LinkError) (xs ys zs : List Place) (n : ℕ) →
-    IsFiltered R f xs ys → zs ≡ take n ys → ((x : Place) (b : Bool) (g : F) → R f x b g → (b ≡ true → place_phase x ≡ error_phase e) × (g ≡ f)) →
-    e ≢ error.Memory → Cause files words e → All (Says files words) xs → All (Holds files words) zs
-all_kept R f files words e xs ys zs n filtered taken tests some c says =
-    let of = All-from_retain R (λ p. place_phase p ≡ error_phase e) f tests xs ys filtered in
+    {F : Type 0} (R : F → Place → Bool → F → Type 0) (f : F) (files : List File) (words : List (List ℕ)) (ph : Phase) (xs ys zs : List Place) (n : ℕ) →
+    IsFiltered R f xs ys → zs ≡ take n ys → ((x : Place) (b : Bool) (g : F) → R f x b g → (b ≡ true → place_phase x ≡ ph) × (g ≡ f)) →
+    Given files words ph → All (Says files words) xs → All (Holds files words) zs
+all_kept R f files words ph xs ys zs n filtered taken tests g says =
+    let of = All-from_retain R (λ p. place_phase p ≡ ph) f tests xs ys filtered in
     let picked : All (Says files words) (items_where_true filtered.0 xs) = λ k d within.
     let p = get_or_picked filtered.0 xs k d within in subst (Says files words) (sym p.1.2) (says p.1.0 d p.1.1) in
     let so = subst (All (Says files words)) (sym filtered.4) picked in
-    subst (All (Holds files words)) (sym taken) (All-take (Holds files words) n ys (all_hold files words e ys some c of so))
+    subst (All (Holds files words)) (sym taken) (All-take (Holds files words) n ys (all_hold files words ph ys g of so))

@@ -1,7 +1,7 @@
 -- What a place of an explanation says, and the cause that it carries.
 use Rattle.std.specs.Prelude.{◌≡◌, ◌≢◌, ◌⊎◌, ◌<◌, ◌+◌, ◌%◌, ◌^◌, ℕ, true, List, [], Option, Some, Ok, Err, All, IfSome, unwrap_or}
 use Rattle.std.specs.List.{slice_get}
-use Rattle.elf_model.specs.Own.Causes.{AnyRelocation, Cause, HasObjects, IsBadArchive, IsUndefinedName, IsWithoutIndex, Reaches}
+use Rattle.elf_model.specs.Own.Causes.{AnyRelocation, Cause, HasFiles, HasObjects, IsBadArchive, IsResolved, IsUndefinedName, IsWithoutIndex, Reaches}
 use Rattle.elf_model.specs.Inputs.Command.{Item, Plan, command_of}
 use Rattle.elf_model.specs.Inputs.Files.{File}
 use Rattle.elf_model.specs.Link.Groups.{GroupFaultStands}
@@ -17,7 +17,6 @@ use Rattle.elf_model.specs.declared.faults.ArFault.TheVariants as archive_fault
 use Rattle.elf_model.specs.declared.faults.CmdFault.{CmdFault}
 use Rattle.elf_model.specs.declared.faults.GroupFault.{GroupFault}
 use Rattle.elf_model.specs.declared.faults.GroupFault.TheVariants as group_fault
-use Rattle.elf_model.specs.declared.faults.LinkError.{LinkError}
 use Rattle.elf_model.specs.declared.faults.LinkError.TheVariants as error
 use Rattle.elf_model.specs.declared.faults.ObjFault.{ObjFault}
 use Rattle.elf_model.specs.declared.faults.ObjFault.TheVariants as object_fault
@@ -209,31 +208,7 @@ Says files words p =
     ⊎ ((plan : Plan) × (command_of words ≡ Ok plan) × HoldsOf files plan p)
     ⊎ ((l : LoadedPlan) × IsLoadedBy files words l × HoldsIn l p)
 
--- what is judged together in a link: the phase of each error, and of each place
-abbrev pub error_phase : LinkError → Phase
-error_phase error.Memory = phase.None
-error_phase (error.Command f) = phase.Words
-error_phase error.FileMissing = phase.Files
-error_phase (error.BadArchive f) = phase.Archives
-error_phase error.NoIndex = phase.Archives
-error_phase (error.BadObject f) = phase.Objects
-error_phase (error.BadGroup f) = phase.Objects
-error_phase error.SectionKind = phase.Kinds
-error_phase error.BadCommon = phase.Commons
-error_phase error.BadSymbol = phase.Symbols
-error_phase (error.Duplicate name) = phase.Definitions
-error_phase (error.Undefined name) = phase.References
-error_phase error.RefToDropped = phase.References
-error_phase error.RelocKind = phase.References
-error_phase error.FieldOutside = phase.References
-error_phase error.TlsMismatch = phase.References
-error_phase error.MixedSection = phase.References
-error_phase error.OverlappingFields = phase.Overlaps
-error_phase error.NoEntry = phase.Entry
-error_phase error.TooLarge = phase.Room
-error_phase error.Overflow = phase.Values
-
--- an error that is told as a whole is of no phase
+-- what is judged together in a link: the phase of the error that a place is of; an error that is told as a whole is of none
 abbrev pub place_phase : Place → Phase
 place_phase (place.Word number f) = phase.Words
 place_phase (place.Missing i source) = phase.Files
@@ -251,6 +226,23 @@ place_phase (place.Entry name) = phase.Entry
 place_phase (place.Large p) = phase.Room
 place_phase (place.Value p value address) = phase.Values
 place_phase (place.Refused e) = phase.None
+
+-- what the cause of an error gives of its phase
+abbrev pub Given : List File → List (List ℕ) → Phase → Type 0
+Given files words phase.None = ⊥
+Given files words phase.Words = Unit {0}
+Given files words phase.Files = Cause files words error.FileMissing
+Given files words phase.Archives = (p : Plan) × HasFiles files words p
+Given files words phase.Objects = Unit {0}
+Given files words phase.Kinds = Cause files words error.SectionKind
+Given files words phase.Commons = Cause files words error.BadCommon
+Given files words phase.Symbols = Cause files words error.BadSymbol
+Given files words phase.Definitions = (p : Plan) × HasObjects files words p
+Given files words phase.References = (p : Plan) × IsResolved files words p
+Given files words phase.Overlaps = Cause files words error.OverlappingFields
+Given files words phase.Entry = Cause files words error.NoEntry
+Given files words phase.Room = Cause files words error.TooLarge
+Given files words phase.Values = Cause files words error.Overflow
 
 -- the cause of the error that a place is of; a name is that of the place
 abbrev pub CauseOf : List File → List (List ℕ) → Place → Type 0

@@ -1,6 +1,9 @@
 //! The phases of a link: what each error is of, and each place.
-ghost use Rattle.std.specs.Prelude.{◌≡◌};
-ghost use Rattle.explain.specs.Places.{error_phase, place_phase};
+ghost use Rattle.std.specs.Prelude.{◌≡◌, ◌≢◌, List, ℕ};
+ghost use Rattle.elf_model.specs.Inputs.Files.{File};
+ghost use Rattle.elf_model.specs.Own.Causes.{Cause};
+ghost use Rattle.elf_model.specs.declared.faults.LinkError.TheVariants as link_error;
+ghost use Rattle.explain.specs.Places.{Given, place_phase};
 
 use crate::place::{Place, SymbolFault};
 use elf_model::LinkError;
@@ -25,9 +28,10 @@ pub enum Phase {
     Values,
 }
 
-/// The phase of an error.
+/// The phase of an error, of which its cause gives what is known.
 pub fn phase_of(error: &LinkError) -> Phase
-    ensures { result ≡ error_phase error.now }
+    ensures { (files : List File) (words : List (List ℕ)) →
+        error.now ≢ link_error.Memory → Cause files words error.now → Given files words result }
 {
     match error {
         LinkError::Memory => Phase::None,

@@ -7,10 +7,10 @@ use Rattle.explain.proofs.found.Found.told.Goals as goal
 
 pub returns-then-not-is_empty-clause-holds : goal.returns-then-not-is_empty-clause-holds
 returns-then-not-is_empty-clause-holds c = λ files words some cause says.
-    all_kept _ _ files words c.args.error.now c.args.self.places.items _ _ _ c.retain.ensures.filtered c.truncate.ensures.items (λ x b f t. search rules) some cause says
+    all_kept _ _ files words c.phase_of-phase.result c.args.self.places.items _ _ _ c.retain.ensures.filtered c.truncate.ensures.items (λ x b f t. search rules) (c.phase_of-phase.ensures files words some cause) says
 
 pub returns-clause-holds : goal.returns-clause-holds
 returns-clause-holds c = λ files words some cause says.
-    let kept = all_kept _ _ files words c.args.error.now c.args.self.places.items _ _ _ c.retain.ensures.filtered c.truncate.ensures.items (λ x b f t. search rules) some cause says in
+    let kept = all_kept _ _ files words c.phase_of-phase.result c.args.self.places.items _ _ _ c.retain.ensures.filtered c.truncate.ensures.items (λ x b f t. search rules) (c.phase_of-phase.ensures files words some cause) says in
     subst (All (Holds files words)) (sym c.in_ok-push.ensures.items)
     (All-push (Holds files words) c.truncate.new.self.items (place.Refused c.args.error) kept (record { says = inl some; cause = cause }))
