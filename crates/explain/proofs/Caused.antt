@@ -1,13 +1,13 @@
 -- Each place carries the cause of its error: by what the error's own cause gives of the phase, and by what the place says.
-use Rattle.std.proofs.Common.{◌≡◌, ◌∙◌, ◌⊎◌, inl, inr, ℕ, Bool, true, List, Ok, All, ap, get_or, take, refl, subst, sym}
+use Rattle.std.proofs.Common.{◌≡◌, ◌∙◌, ◌⊎◌, inl, inr, ℕ, Bool, true, List, Ok, All, ap, get_or, take, subst, sym}
 use Rattle.std.specs.List.{items_where_true}
 use Rattle.std.specs.List.Retain.{IsFiltered}
 use Rattle.std.proofs.lemmas.Grind.{get_or_picked}
 use Rattle.std.proofs.lemmas.Fn.{All-from_retain}
 use Rattle.std.proofs.lemmas.List.Elements.{All-take}
-use Rattle.std.specs.Prelude.{None, ◌≢◌, Any}
+use Rattle.std.specs.Prelude.{None, Any}
 use Rattle.command.proofs.Found.{same_ok}
-use Rattle.elf_model.specs.Own.Causes.{Cause, HasArchives, HasBadGroups, HasFiles, HasObjects, IsBadArchive, IsResolved, IsToDropped, IsToMixed, IsUndefinedName, IsWithoutIndex}
+use Rattle.elf_model.specs.Own.Causes.{HasArchives, HasBadGroups, HasFiles, IsBadArchive, IsResolved, IsToDropped, IsToMixed, IsUndefinedName, IsWithoutIndex}
 use Rattle.elf_model.specs.Inputs.Command.{Plan, command_of}
 use Rattle.elf_model.specs.Inputs.Files.{File}
 use Rattle.elf_model.specs.Link.Loading.{LoadedObject, loaded_objects}
@@ -15,8 +15,6 @@ use Rattle.elf_model.specs.Inputs.ObjectFile.{ObjFaultStands}
 use Rattle.elf_model.specs.Inputs.Opening.{opened}
 use Rattle.elf_model.specs.Link.Relocation.{IsFieldInside, IsThreadMismatch, Relocation, relocation_kind, relocations}
 use Rattle.elf_model.specs.Link.Resolution.{IsDuplicate}
-use Rattle.elf_model.specs.declared.faults.LinkError.{LinkError}
-use Rattle.elf_model.specs.declared.faults.LinkError.TheVariants as error
 use Rattle.elf_model.proofs.Finding.{Any-from_contains}
 use Rattle.elf_model.proofs.Listed.{Contains-from_slice_get}
 use Rattle.input_names.proofs.ListedPlaces.{listed}
@@ -29,7 +27,6 @@ use Rattle.relocate.specs.declared.faults.RelocationFault.TheVariants as wrong
 use Rattle.explain.specs.Places as places
 use Rattle.explain.specs.Places.{CauseOf, HasFault, Holds, IsFileOf, IsLoadedBy, IsWrongRelocation, Given, Says, place_phase}
 use Rattle.explain.specs.declared.phase.Phase.{Phase}
-use Rattle.explain.specs.declared.phase.Phase.TheVariants as phase
 use Rattle.explain.specs.declared.place.Place.{Place}
 use Rattle.explain.specs.declared.place.Place.TheVariants as place
 use Rattle.explain.specs.declared.place.RelocationPlace.{RelocationPlace}
@@ -40,7 +37,7 @@ one_plan : (words : List (List ℕ)) (p q : Plan) → command_of words ≡ Ok p 
 one_plan words p q a b = same_ok q p (sym b ∙ a)
 
 loaded_of : (files : List File) (words : List (List ℕ)) (p : Plan) (l : LoadedPlan) → command_of words ≡ Ok p → IsLoadedBy files words l → l.objects ≡ loaded_objects files p
-loaded_of files words p l is by = by.loads ∙ ap (loaded_objects files) (one_plan words l.plan p by.words_are is)
+loaded_of files words p l is by = by.loads ∙ ap (loaded_objects files) (one_plan words by.plan p by.words_are is)
 
 relocation_cause :
     (files : List File) (words : List (List ℕ)) (p : Plan) (q : RelocationPlace) (f : RelocationFault) → IsResolved files words p →

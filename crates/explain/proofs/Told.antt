@@ -1,8 +1,7 @@
 -- What places say of the files and the words.
-use Rattle.std.proofs.Common.{◌≡◌, ◌∙◌, ◌+◌, ℕ, zero, suc, List, [], ◌∷◌, Ok, Err, Result, OnOk, Some, All, ap, arith}
+use Rattle.std.proofs.Common.{◌≡◌, ◌∙◌, ◌+◌, ℕ, zero, suc, List, [], ◌∷◌, Some, ap, arith}
 use Rattle.std.specs.List.{slice_get}
 use Rattle.std.proofs.lemmas.Option.{none-some, same_Some}
-use Rattle.std.proofs.lemmas.List.Elements.{All-weaker}
 use Rattle.elf_model.specs.Inputs.Command.{Item, Plan}
 use Rattle.elf_model.specs.Inputs.Files.{File}
 use Rattle.elf_model.specs.Inputs.Opening.{opened_from, opened_item}
@@ -12,7 +11,6 @@ use Rattle.search.proofs.LoadLaws.{reaches_weaker}
 use Rattle.search.specs.declared.loader.RefusedObject.{RefusedObject}
 use Rattle.explain.specs.Places.{IsFileOf, IsStoppedAt}
 use Rattle.explain.specs.declared.place.ObjectPlace.{ObjectPlace}
-use Rattle.explain.specs.declared.place.Place.{Place}
 
 -- what stands of the object at which loading stops is said of its place
 pub stopped_at :
@@ -39,8 +37,3 @@ opened_at files directories k zero n (x ∷ xs) item there is =
     ap (λ (m : ℕ). Some (opened_item files directories m x)) number ∙ ap (λ (y : Item). Some (opened_item files directories n y)) same
 opened_at files directories k (suc i) n (x ∷ xs) item there is =
     opened_at files directories (k + 1) i n xs item there (omega (arith, is))
-
--- where all have one thing, they have another that follows from it
-pub all_told : {X E : Type 0} (P Q : Place → Type 0) (r : Result X E) (xs : List Place) → ((x : Place) → P x → Q x) → OnOk r (All P xs) → OnOk r (All Q xs)
-all_told P Q (Ok v) xs follows all = All-weaker P Q follows xs all
-all_told P Q (Err e) xs follows all = all

@@ -198,8 +198,10 @@ AreSo g places = All (IsSo g) places
 
 -- the words are a plan, and this is what it loads from files
 pub record IsLoadedBy (files : List File) (words : List (List ℕ)) (l : LoadedPlan) : Type 0 where
-  pub words_are : command_of words ≡ Ok l.plan
-  pub loads : l.objects ≡ loaded_objects files l.plan
+  pub plan : Plan
+  pub words_are : command_of words ≡ Ok plan
+  pub plan_is : l.plan ≡ plan
+  pub loads : l.objects ≡ loaded_objects files plan
 
 -- what a place says: of the words of a command, of the files of its plan, or of the objects that this loads from them
 abbrev pub Says : List File → List (List ℕ) → Place → Type 0

@@ -1,5 +1,5 @@
 //! The places that were found so far: the first of them, and how many more there are.
-ghost use Rattle.std.specs.Prelude.{◌≡◌, ◌≢◌, ◌<◌, ◌≤◌, [], All, IfOk, IfSome, List, OnOk, length, ℕ};
+ghost use Rattle.std.specs.Prelude.{◌≡◌, ◌≢◌, ◌<◌, ◌≤◌, All, IfOk, IfSome, List, OnOk, length, ℕ};
 ghost use Rattle.elf_model.specs.Inputs.Files.{File};
 ghost use Rattle.elf_model.specs.Own.Causes.{Cause};
 ghost use Rattle.elf_model.specs.declared.faults.LinkError.TheVariants as link_error;
@@ -24,7 +24,7 @@ pub struct Found<'a> {
 impl<'a> Found<'a> {
     /// No places; at most so many are kept.
     pub(crate) fn new(alloc: Global, most: usize) -> Found<'a>
-        ensures { result.places.items ≡ [] }
+        ensures { (g : Ground) → AreSo g result.places.items }
     {
         Found {
             places: Vec::new(alloc),

@@ -1,11 +1,11 @@
 //! Why a link is refused, phase by phase.
-ghost use Rattle.std.specs.Prelude.{◌≡◌, ◌↔◌, ◌<◌, ◌≤◌, [], All, IfOk, IsTrue, OnOk, length};
+ghost use Rattle.std.specs.Prelude.{◌≡◌, ◌↔◌, ◌<◌, ◌≤◌, All, IfOk, IsTrue, OnOk, length};
 ghost use Rattle.elf_model.specs.Own.Causes.{Cause};
 ghost use Rattle.elf_model.specs.Inputs.Command.{IsBase};
 ghost use Rattle.elf_model.specs.declared.faults.LinkError.TheVariants as link_error;
 ghost use Rattle.elf_model.specs.Inputs.Files.{files_of, words_of};
 ghost use Rattle.elf_model.specs.Link.Pieces.{AreLawfulKinds};
-ghost use Rattle.explain.specs.Places.{AreSo, Holds, OfLoaded, OfPlan, Says};
+ghost use Rattle.explain.specs.Places.{AreSo, Ground, Holds, OfLoaded, OfPlan, Says};
 
 use crate::files::{add_items, add_refused};
 use crate::found::{Added, Found};
@@ -139,7 +139,7 @@ fn add_reasons<'a>(
     files: &'a [InputFile],
     words: &'a [String],
 ) -> Added
-    requires { found.old.places.items ≡ [] }
+    requires { (g : Ground) → AreSo g found.old.places.items }
     ensures { OnOk result (All
         (Says (files_of files.now) (words_of words.now)) found.new.places.items) }
 {

@@ -1,4 +1,4 @@
-use Rattle.std.proofs.Common.{◌≡◌, ◌∙◌, ℕ, Some, rules, subst, sym}
+use Rattle.std.proofs.Common.{◌≡◌, ℕ, Some, rules, subst, sym}
 use Rattle.std.specs.List.{slice_get}
 use Rattle.search.specs.Views.{loaded_view}
 use Rattle.input_names.proofs.KeptPlaces.{HasNumbers, kept, placed}
@@ -17,11 +17,9 @@ returns c =
     let e = c.relocation_place.ensures in
     let has : HasNumbers p o h k i j x =
     record { object = e.object; table = e.table; number = e.number; entry = e.entry; section = e.section; section_name = e.section_name; symbol_name = e.symbol_name } in
-    let is_kept = sym c.is_kept_rela.ensures ∙ c.if-not-is_kept_rela.false in
-    let some = sym c.is_some_kind.ensures ∙ c.if-not-is_some_kind.false in
     record {
       o = o;
       object = subst (λ (m : ℕ). slice_get os m ≡ Some o) (sym e.object) c.requires;
       file = c.file_of.ensures;
-      at = kept os p o h k i j x has (placed os p o h k i j x has c.requires (search rules) is_kept (search rules) some);
+      at = kept os p o h k i j x has (placed os p o h k i j x has c.requires (search rules) (search rules) (search rules) (search rules));
     }
