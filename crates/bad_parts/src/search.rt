@@ -36,13 +36,13 @@ fn bad_section<'a>(tables: &Tables<'a>, fault: ObjFault, i: usize) -> Option<Bad
         }
         (ObjFault::BadRela, SHT_REL) => Some(BadPart::Rel(part)),
         (ObjFault::BadRela, SHT_RELA)
-            if has_good_symbol_table(sections) && !is_rela_section(sections, header) => Some(
-            BadPart::Relas(part),
-        ),
+            if has_good_symbol_table(sections) && !is_rela_section(sections, header) => {
+            Some(BadPart::Relas(part))
+        }
         (ObjFault::BadGroup, SHT_GROUP)
-            if has_good_symbol_table(sections) && !is_group_section(sections, header) => Some(
-            BadPart::Group(part),
-        ),
+            if has_good_symbol_table(sections) && !is_group_section(sections, header) => {
+            Some(BadPart::Group(part))
+        }
         _ => None,
     }
 }
