@@ -1,8 +1,4 @@
 pub mod Denials
-pub mod MemoryDenials
-pub mod ObjectLines
-pub mod Reading
-pub mod SegmentEnds
 pub mod TableBuilding
 pub mod WrongBytes
 pub mod WrongRelocations

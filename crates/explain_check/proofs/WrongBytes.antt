@@ -13,7 +13,7 @@ use Rattle.check_relocs.specs.Bytes.{byte_of, covers, fields_in}
 use Rattle.check_relocs.specs.Fields.{AreRows}
 use Rattle.check_relocs.specs.declared.fields.Field.{Field}
 use Rattle.checker.proofs.PieceSections.{wanted_at}
-use Rattle.explain_check.specs.BytePlaces.{IsFieldOver, IsWrongByte}
+use Rattle.explain_check.specs.RelocationPlaces.{IsFieldOver, IsWrongByte}
 use Rattle.input_names.specs.declared.relocation_places.RelocationPlace.{RelocationPlace}
 
 pub wrong_byte :

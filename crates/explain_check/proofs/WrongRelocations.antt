@@ -18,7 +18,7 @@ use Rattle.check_relocs.specs.declared.lawful_fields.Relocated.{Relocated}
 use Rattle.check_relocs.specs.declared.targets.Target.{Target}
 use Rattle.input_names.specs.RelocationPlaces.{IsRelocationAt}
 use Rattle.explain_check.specs.RelocationPlaces.{IsUnfit, IsUnlawful, IsWrongRelocation}
-use Rattle.explain_check.specs.Referrers.{IsWrongWith}
+use Rattle.explain_check.specs.RelocationPlaces.{IsWrongWith}
 use Rattle.input_names.specs.declared.relocation_faults.RelocationFault.{RelocationFault}
 use Rattle.input_names.specs.declared.relocation_faults.RelocationFault.TheVariants as fault
 use Rattle.input_names.specs.declared.relocation_places.RelocationPlace.{RelocationPlace}

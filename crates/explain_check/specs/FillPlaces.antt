@@ -1,13 +1,13 @@
 -- What a place outside of all things, and one of where segments and the file end, says of a link.
-use Rattle.std.specs.Prelude.{◌≡◌, ℕ, ◌+◌, ◌<◌, ◌≤◌, ◌≢◌, ◌||◌, Bool, not, true, List, None, Some, All, Any, IsTrue, length, slice_index}
+use Rattle.std.specs.Prelude.{◌≡◌, ℕ, ◌+◌, ◌<◌, ◌≤◌, ◌||◌, ◌⊎◌, Bool, cond, not, true, List, None, Some, All, Any, IsTrue, length, slice_index}
 use Rattle.std.specs.List.{slice_get}
 use Rattle.elf_model.specs.Image.MemoryImage.{file_end, loads, memory_of}
 use Rattle.elf_model.specs.Link.Placement.{Covers}
 use Rattle.elf_model.specs.Image.RightLink.{EndsRight, IsInFilePart, IsOfSegment, Subject, fill_of, things_of}
 use Rattle.elf_model.specs.declared.records.ProgramHeader.{ProgramHeader}
 use Rattle.elf_model.specs.declared.thing.Thing.{Thing}
-use Rattle.explain_check.specs.declared.memory_place.FillPlace.{FillPlace}
-use Rattle.explain_check.specs.declared.memory_place.SegmentPlace.{SegmentPlace}
+use Rattle.explain_check.specs.declared.place.FillPlace.{FillPlace}
+use Rattle.explain_check.specs.declared.place.SegmentPlace.{SegmentPlace}
 
 -- C11. Memory has a byte outside of all things that isn't fill.
 pub record IsWrongFill (s : Subject) (p : FillPlace) : Type 0 where
@@ -26,24 +26,14 @@ pub record IsEmptySegment (s : Subject) (p : SegmentPlace) : Type 0 where
   pub none : All (λ t. ¬ IsOfSegment p.header t) (things_of s)
   pub wrong : ¬ EndsRight (things_of s) p.header
 
--- the last nonempty thing of a segment ends at an address, and the segment's memory doesn't
-pub record IsWrongMemoryEnd (s : Subject) (p : SegmentPlace) (end : ℕ) : Type 0 where
+-- the last nonempty thing of a segment, of those with bytes in the file where this is asked for, ends at an address, and the
+-- segment's memory, or its file part, doesn't; where none has bytes in the file, the address is that at which the segment begins
+pub record IsWrongEnd (s : Subject) (p : SegmentPlace) (in_file : Bool) (end : ℕ) : Type 0 where
   pub there : slice_get (loads s.image) p.number ≡ Some p.header
-  pub last : Any (λ t. IsOfSegment p.header t × (t.at + t.size ≡ end)) (things_of s)
-  pub none_later : All (λ t. IsOfSegment p.header t → t.at + t.size ≤ end) (things_of s)
-  pub differs : ¬ (p.header.p_vaddr + p.header.p_memsz ≡ end)
-  pub wrong : ¬ EndsRight (things_of s) p.header
-
--- the last thing of a segment that has bytes in the file ends at an address, or there is none, and this is where the
--- segment begins; and the segment's file part doesn't end there
-abbrev pub IsInFileOf : ProgramHeader → Thing → Type 0
-IsInFileOf h t = IsOfSegment h t × (t.in_file ≡ true)
-
-pub record IsWrongFileEnd (s : Subject) (p : SegmentPlace) (end : ℕ) : Type 0 where
-  pub there : slice_get (loads s.image) p.number ≡ Some p.header
-  pub last : end ≢ p.header.p_vaddr → Any (λ t. IsInFileOf p.header t × (t.at + t.size ≡ end)) (things_of s)
-  pub none_later : All (λ t. IsInFileOf p.header t → t.at + t.size ≤ end) (things_of s)
-  pub differs : ¬ (p.header.p_vaddr + p.header.p_filesz ≡ end)
+  pub last :
+      ((in_file ≡ true) × (end ≡ p.header.p_vaddr)) ⊎ Any (λ t. IsAmong in_file p.header t × (t.at + t.size ≡ end)) (things_of s)
+  pub none_later : All (λ t. IsAmong in_file p.header t → t.at + t.size ≤ end) (things_of s)
+  pub differs : ¬ (p.header.p_vaddr + cond in_file p.header.p_filesz p.header.p_memsz ≡ end)
   pub wrong : ¬ EndsRight (things_of s) p.header
 
 -- the file has a byte in no file part that isn't 0

@@ -10,7 +10,7 @@ use Rattle.check_link.specs.Slots.{request_view}
 use Rattle.check_link.specs.declared.requests.Request as code
 use Rattle.input_names.specs.RelocationPlaces.{IsRelocationAt}
 use Rattle.input_names.specs.declared.relocation_places.RelocationPlace.{RelocationPlace}
-use Rattle.explain_check.specs.declared.memory_place.GotBytePlace.{GotBytePlace}
+use Rattle.explain_check.specs.declared.place.GotBytePlace.{GotBytePlace}
 
 -- whether the map has a GOT; relocations ask for the contrary
 pub record IsWrongPresence (s : Subject) (there : Bool) : Type 0 where

@@ -1,13 +1,7 @@
-pub mod BytePlaces
 pub mod FillPlaces
 pub mod GotPlaces
 pub mod LinePlaces
-pub mod Listings
-pub mod Parts
 pub mod PlacementPlaces
 pub mod Places
-pub mod Referrers
 pub mod RelocationPlaces
-pub mod SymbolPlaces
 pub mod TablePlaces
-pub mod ThreadPlaces

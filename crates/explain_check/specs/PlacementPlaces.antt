@@ -1,17 +1,21 @@
--- What places of the fifth and the sixth clause say of a link.
+-- What places of the fifth, the sixth and the eighth clause say of a link.
 use Rattle.std.specs.Prelude.{◌≡◌, ◌≢◌, ◌+◌, ◌-◌, ◌<◌, ◌≤◌, ◌%◌, ◌⊎◌, ℕ, Bool, true, false, List, Option, Some, All, Contains, IfNone, IfSome, IsSome, filter, length}
 use Rattle.std.specs.List.{slice_get}
 use Rattle.elf_model.specs.Link.ArrayOrder.{placed_in_array_order}
-use Rattle.elf_model.specs.Image.MemoryImage.{Encloses, first_address, loads}
-use Rattle.elf_model.specs.Link.Placement.{AreApart, IsNear, IsNext, IsWithin, LiesInSegment, Placed, got_things, is_thread_place, thread_ranges}
-use Rattle.elf_model.specs.Image.RightLink.{Subject, placed_of, sections_of, things_of}
+use Rattle.elf_model.specs.Image.MemoryImage.{Encloses, first_address, loads, thread_blocks}
+use Rattle.elf_model.specs.Link.Placement.{AreApart, IsNear, IsNext, IsWithin, LiesInSegment, Placed, got_things, is_thread_place, thread_ranges, thing_of}
+use Rattle.elf_model.specs.Image.RightLink.{Subject, placed_of, sections_of, things_of, HoldsInitial, IsClearOf, thread_data_end}
 use Rattle.elf_model.specs.declared.records.ProgramHeader.{ProgramHeader}
 use Rattle.elf_model.specs.declared.thing.Thing.{Thing}
-use Rattle.check_link.specs.Views.{placed_view}
+use Rattle.check_link.specs.Views.{placed_view, placed_views}
 use Rattle.explain_check.specs.declared.place.Neighbours.{Neighbours}
 use Rattle.explain_check.specs.declared.place.Part.{Part}
 use Rattle.explain_check.specs.declared.place.PartName.{PartName}
 use Rattle.explain_check.specs.declared.place.PartName.TheVariants as part_name
+use Rattle.elf_model.specs.declared.link_map.GotLine.{GotLine}
+use Rattle.elf_model.specs.Link.Pieces.{is_thread_zero}
+use Rattle.elf_model.specs.Link.ThreadStorage.{thread_headers}
+use Rattle.check_link.specs.declared.things.Placed as code
 
 -- the things among which a part has its number
 abbrev pub list_of : Subject → PartName → List Thing
@@ -41,6 +45,10 @@ pub record IsPart (s : Subject) (p : Part) : Type 0 where
 -- it is one of the things, and not of the thread-local sections
 abbrev pub IsThing : Part → Type 0
 IsThing p = is_thread_name p.name ≡ false
+
+-- pieces are the thread-local sections of a link
+abbrev pub AreThreads : Subject → List code.Placed → Type 0
+AreThreads s qs = placed_views qs ≡ filter is_thread_place (placed_of s)
 
 pub record IsUnaligned (s : Subject) (p : Part) : Type 0 where
   pub part : IsPart s p
@@ -84,3 +92,44 @@ pub record IsWrongFirst (s : Subject) (address base : ℕ) : Type 0 where
   pub is_address : address ≡ first_address (loads s.image)
   pub is_base : base ≡ s.plan.base
   pub wrong : ¬ (address ≡ base)
+
+abbrev pub got_thing : GotLine → Thing
+got_thing got = record { at = got.address; size = got.size; align = 8; rights = 6; in_file = true }
+
+-- the first PT_TLS header, and the wanted one, where the headers aren't those that are wanted
+pub record IsWrongThreadHeader (s : Subject) (there wanted : Option ProgramHeader) : Type 0 where
+  pub is_there : there ≡ slice_get (thread_blocks s.image) 0
+  pub is_wanted : wanted ≡ slice_get (thread_headers s.plan.base (placed_of s)) 0
+  pub wrong : ¬ (thread_blocks s.image ≡ thread_headers s.plan.base (placed_of s))
+
+-- a thread-local piece without bytes begins before those with bytes end
+pub record AreEarlyZeros (s : Subject) (k : ℕ) (q : code.Placed) (end : ℕ) : Type 0 where
+  pub there : slice_get (placed_of s) k ≡ Some (placed_view q)
+  pub zeros : is_thread_zero (placed_view q).piece ≡ true
+  pub is_end : end ≡ thread_data_end s
+  pub wrong : q.at < thread_data_end s
+
+-- a block begins at an address, and the thread-local pieces with bytes end at another one
+pub record IsBlock (s : Subject) (start end : ℕ) : Type 0 where
+  pub header : ProgramHeader
+  pub there : slice_get (thread_blocks s.image) 0 ≡ Some header
+  pub is_start : start ≡ header.p_vaddr
+  pub is_end : end ≡ thread_data_end s
+
+-- the GOT has an address from the beginning of the block on and below the end of its bytes
+pub record IsGotInside (s : Subject) (got : GotLine) (start end : ℕ) : Type 0 where
+  pub got_is : s.map.got ≡ Some got
+  pub block : IsBlock s start end
+  pub wrong : ¬ IsClearOf start end (got_thing got)
+
+-- so has a piece that isn't thread-local
+pub record IsPieceInside (s : Subject) (k : ℕ) (q : code.Placed) (start end : ℕ) : Type 0 where
+  pub there : slice_get (placed_of s) k ≡ Some (placed_view q)
+  pub other : is_thread_place (placed_view q) ≡ false
+  pub block : IsBlock s start end
+  pub wrong : ¬ IsClearOf start end (thing_of (placed_view q))
+
+-- no PT_LOAD holds the initial bytes of a block
+pub record AreUnheld (s : Subject) (h : ProgramHeader) : Type 0 where
+  pub there : slice_get (thread_blocks s.image) 0 ≡ Some h
+  pub wrong : ¬ HoldsInitial (loads s.image) h

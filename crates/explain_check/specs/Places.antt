@@ -7,15 +7,12 @@ use Rattle.elf_model.specs.Image.RightLink.{AreRelocationsRight, Holds, HoldsBef
 use Rattle.elf_model.specs.declared.verdict.Clause.{Clause}
 use Rattle.elf_model.specs.declared.verdict.Clause.TheVariants.{C2, C3, C5, C6, C7, C8, C9, C10, C11, C12, C13, C14}
 use Rattle.input_names.specs.RelocationPlaces.{IsOverlap}
-use Rattle.explain_check.specs.BytePlaces.{IsWrongByte}
-use Rattle.explain_check.specs.FillPlaces.{IsEmptySegment, IsWrongFileEnd, IsWrongFill, IsWrongGap, IsWrongLength, IsWrongMemoryEnd}
+use Rattle.explain_check.specs.FillPlaces.{IsEmptySegment, IsWrongEnd, IsWrongFill, IsWrongGap, IsWrongLength}
 use Rattle.explain_check.specs.GotPlaces.{IsRepeated, IsUnasked, IsUnserved, IsWrongGotByte, IsWrongPresence, IsWrongSize, IsWrongSlotAddress}
-use Rattle.explain_check.specs.LinePlaces.{IsWrongCommon, IsWrongDrop, IsWrongObject, IsWrongPlace}
-use Rattle.explain_check.specs.PlacementPlaces.{AreFar, IsOutside, IsShared, IsUnaligned, IsUnheld, IsWrongFirst}
-use Rattle.explain_check.specs.RelocationPlaces.{IsUnfit, IsWrongRelocation}
-use Rattle.explain_check.specs.SymbolPlaces.{IsWrongEntry, IsWrongLine, LacksLine}
+use Rattle.explain_check.specs.LinePlaces.{IsWrongCommon, IsWrongDrop, IsWrongEntry, IsWrongLine, IsWrongObject, IsWrongPlace, LacksLine}
+use Rattle.explain_check.specs.PlacementPlaces.{AreEarlyZeros, AreFar, AreUnheld, IsGotInside, IsOutside, IsPieceInside, IsShared, IsUnaligned, IsUnheld, IsWrongFirst, IsWrongThreadHeader}
+use Rattle.explain_check.specs.RelocationPlaces.{IsUnfit, IsWrongByte, IsWrongRelocation}
 use Rattle.explain_check.specs.TablePlaces.{FailsInTable}
-use Rattle.explain_check.specs.ThreadPlaces.{AreEarlyZeros, AreUnheld, IsGotInside, IsPieceInside, IsWrongThreadHeader}
 use Rattle.explain_check.specs.declared.place.CheckPlace.TheVariants as place
 use Rattle.explain_check.specs.declared.place.CheckPlace.{CheckPlace}
 
@@ -48,8 +45,7 @@ FailsIn s (place.Value p value address) = IsUnfit (objects_of s) (where_of s) p 
 FailsIn s (place.Byte p) = IsWrongByte s p
 FailsIn s (place.Fill p) = IsWrongFill s p
 FailsIn s (place.EmptySegment p) = IsEmptySegment s p
-FailsIn s (place.MemoryEnd p end) = IsWrongMemoryEnd s p end
-FailsIn s (place.FileEnd p end) = IsWrongFileEnd s p end
+FailsIn s (place.SegmentEnd p in_file end) = IsWrongEnd s p in_file end
 FailsIn s (place.Gap i byte) = IsWrongGap s.image i byte
 FailsIn s (place.Length len end) = IsWrongLength s len end
 FailsIn s (place.Entry p) = IsWrongEntry s p
@@ -88,8 +84,7 @@ clause_of (place.Value p value address) = C9
 clause_of (place.Byte p) = C10
 clause_of (place.Fill p) = C11
 clause_of (place.EmptySegment p) = C11
-clause_of (place.MemoryEnd p end) = C11
-clause_of (place.FileEnd p end) = C11
+clause_of (place.SegmentEnd p in_file end) = C11
 clause_of (place.Gap i byte) = C11
 clause_of (place.Length len end) = C11
 clause_of (place.Entry p) = C12

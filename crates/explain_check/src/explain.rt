@@ -1,16 +1,72 @@
-//! Where a check says no: the link is read, checked once more, and the places of the first clause that fails are told.
-ghost use Rattle.std.specs.Prelude.{◌≡◌, ◌<◌, ◌≤◌, ℕ, All, IfOk, IfSome, List, length};
+//! Where a check says no: the link is read, checked once more, and the places of the first clause that fails are told. They
+//! are found where the check sees it fail.
+ghost use Rattle.std.specs.Prelude.{◌≡◌, ◌<◌, ◌≤◌, ℕ, [], All, IfOk, IfSome, List, length};
 ghost use Rattle.elf_model.specs.Inputs.Files.{files_of, words_of};
 ghost use Rattle.elf_model.specs.Image.RightLink.{Holds, IsRead};
 ghost use Rattle.elf_model.specs.declared.verdict.Clause as verdict;
 ghost use Rattle.explain_check.specs.Places.{AreFailures, FailsAt, IsFirst, clause_of};
 
-use crate::found::Found;
-use crate::seen::Seen;
+use crate::bytes::add_c10;
+use crate::fill::add_c11;
+use crate::found::{Added, Found};
+use crate::got::add_c7;
+use crate::lines::{add_c2, add_c3};
+use crate::placement::{add_c5, add_c6};
+use crate::relocations::add_c9;
+use crate::symbol_lines::{add_c12, add_c13};
+use crate::tables::add_c14;
+use crate::thread_block::add_c8;
 use check_link::{Link, read_map, read_plan};
-use checker::judge;
-use elf_model::{InputFile, Verdict};
+use check_load::Loaded;
+use check_relocs::Field;
+use checker::{BoundLink, LoadedLink, Observer, PlacedLink, judge};
+use elf_model::{Clause, InputFile, Verdict};
 use std::alloc::{AllocError, Global};
+
+/// What is seen of a check: the places that were found.
+#[derive(Drop)]
+struct Seen<'a> {
+    alloc: Global,
+    found: Found<'a>,
+}
+
+impl<'a> Observer<'a> for Seen<'a> {
+    ghost use Rattle.explain_check.specs.Places.{AreFailures};
+
+    ghost Saw = { λ s seen. AreFailures s seen.found.places.items };
+
+    fn see_objects(&mut self, link: &'a Link<'a>, objects: &[Loaded<'a>]) -> Added {
+        add_c2(&mut self.found, link, objects)
+    }
+
+    fn see_loaded(&mut self, loaded: &LoadedLink<'_, 'a>) -> Added {
+        add_c3(self.alloc, &mut self.found, loaded)
+    }
+
+    fn see_placed(&mut self, clause: Clause, placed: &PlacedLink<'_, 'a>) -> Added {
+        match clause {
+            Clause::C5 => add_c5(self.alloc, &mut self.found, placed),
+            _ => add_c6(&mut self.found, placed),
+        }
+    }
+
+    fn see_bound(&mut self, clause: Clause, bound: &BoundLink<'_, 'a>) -> Added {
+        match clause {
+            Clause::C7 => add_c7(self.alloc, &mut self.found, bound),
+            Clause::C8 => add_c8(&mut self.found, bound),
+            Clause::C9 => add_c9(self.alloc, &mut self.found, bound),
+            Clause::C11 => add_c11(self.alloc, &mut self.found, bound),
+            Clause::C12 => add_c12(&mut self.found, bound),
+            Clause::C13 => add_c13(self.alloc, &mut self.found, bound),
+            Clause::C14 => add_c14(self.alloc, &mut self.found, bound),
+            _ => Ok(()),
+        }
+    }
+
+    fn see_fields(&mut self, bound: &BoundLink<'_, 'a>, rows: &[Vec<Field>]) -> Added {
+        add_c10(&mut self.found, bound, rows)
+    }
+}
 
 /// The link that words, files, an image and a map's text make; None where the words are no command or the text is no
 /// map's: the first clause.
@@ -66,11 +122,12 @@ pub fn explain_check<'a>(
         → IfOk result (λ f.
         All (FailsAt link.entry.now.files words link.entry.now.image bytes) f.places.items) }
 {
-    let mut seen = Seen::new(alloc, most);
+    let found = Found::new(alloc, most);
+    let mut seen = Seen { alloc, found };
     match judge(alloc, link, None, &mut seen)? {
         Verdict::Yes => Ok(Found::new(alloc, most)),
         Verdict::No(clause) => {
-            let told = seen.found().of_clause(alloc, clause, most)?;
+            let told = seen.found.of_clause(alloc, clause, most)?;
             told.or_clause(clause)
         }
     }

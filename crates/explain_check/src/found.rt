@@ -1,13 +1,62 @@
 //! The places that were found so far: the first of them, and how many more there are.
 ghost use Rattle.std.specs.Prelude.{◌≡◌, ◌<◌, ◌≤◌, [], All, IfOk, IfSome, OnErr, OnOk, length};
+ghost use Rattle.elf_model.specs.Image.MapText.{IsMap};
 ghost use Rattle.elf_model.specs.Image.RightLink.{Holds, Subject};
 ghost use Rattle.elf_model.specs.declared.verdict.Clause as verdict;
-ghost use Rattle.explain_check.specs.Places.{AreFailures, FailsIn, IsOf};
+ghost use Rattle.explain_check.specs.Places.{AreFailures, FailsIn, IsOf, clause_of};
 
-use crate::clause::kind_of;
-use crate::place::CheckPlace;
+use crate::place::{CheckPlace, Failure};
 use elf_model::Clause;
 use std::alloc::{AllocError, Global};
+
+/// The clause of the kind of a place.
+pub fn kind_of(place: &CheckPlace<'_>) -> Clause
+    ensures { result ≡ clause_of place.now }
+{
+    match place {
+        CheckPlace::ObjectLine(_) => Clause::C2,
+        CheckPlace::DropLine(_) | CheckPlace::PlaceLine(_) | CheckPlace::CommonLine(_) => {
+            Clause::C3
+        }
+        CheckPlace::Unaligned(_)
+        | CheckPlace::Outside(_, _)
+        | CheckPlace::Shared(_, _)
+        | CheckPlace::Far(_) => Clause::C5,
+        CheckPlace::Unheld(_, _) | CheckPlace::First(_, _) => Clause::C6,
+        CheckPlace::Got(_)
+        | CheckPlace::UnaskedSlot(_, _)
+        | CheckPlace::RepeatedSlot(_, _, _)
+        | CheckPlace::NoSlot(_, _)
+        | CheckPlace::GotSize(_, _)
+        | CheckPlace::SlotAddress(_, _, _)
+        | CheckPlace::GotByte(_) => Clause::C7,
+        CheckPlace::ThreadHeader(_, _)
+        | CheckPlace::ThreadZeros(_, _, _)
+        | CheckPlace::GotInThreadBlock(_, _, _)
+        | CheckPlace::PieceInThreadBlock(_, _, _, _)
+        | CheckPlace::ThreadBytes(_) => Clause::C8,
+        CheckPlace::Relocation(_, _) | CheckPlace::Overlap(_, _) | CheckPlace::Value(_, _, _) =>
+            Clause::C9,
+        CheckPlace::Byte(_) => Clause::C10,
+        CheckPlace::Fill(_)
+        | CheckPlace::EmptySegment(_)
+        | CheckPlace::SegmentEnd(_, _, _)
+        | CheckPlace::Gap(_, _)
+        | CheckPlace::Length(_, _) => Clause::C11,
+        CheckPlace::Entry(_) => Clause::C12,
+        CheckPlace::SymbolLine(_) | CheckPlace::NoSymbolLine(_, _) => Clause::C13,
+        CheckPlace::Table(_) => Clause::C14,
+        CheckPlace::Whole(clause) => *clause,
+    }
+}
+
+/// The clause that fails at a place: what the place says of a link denies it.
+pub fn clause_of(place: &CheckPlace<'_>) -> Clause
+    ensures clause { result ≡ clause_of place.now }
+    ensures fails { (s : Subject) → IsMap s.map → FailsIn s place.now → ¬ Holds result s }
+{
+    kind_of(place)
+}
 
 /// Whether there was memory for what was to be added.
 pub(crate) type Added = Result<(), AllocError>;
@@ -145,4 +194,71 @@ impl<'a> Found<'a> {
     pub fn more(&self) -> u64 {
         self.more
     }
+}
+
+/// What judges the things of a link, by their numbers, for a clause.
+pub(crate) trait Judge<'a, K> {
+    // The link.
+    ghost subject: { Self → Subject };
+
+    /// The place of the thing of a kind that has a number, where the clause fails there.
+    fn judge(&self, kind: K, number: usize) -> Failure<'a>
+        ensures { IfSome result (FailsIn (subject self.now)) };
+}
+
+/// Adds the places of the first so many things of a kind.
+pub(crate) fn add_all<'a, K: Copy, J: Judge<'a, K>>(
+    found: &mut Found<'a>,
+    judge: &J,
+    kind: K,
+    count: usize,
+) -> Added
+    requires { AreFailures (J.subject judge.now) found.old.places.items }
+    ensures { OnOk result (AreFailures (J.subject judge.now) found.new.places.items) }
+{
+    add_rows(found, judge, kind, count, count)
+}
+
+/// Adds the places of rows of which so many are told and so many are wanted: all where there are as many, else the first one,
+/// since those after it differ only because they are shifted.
+pub(crate) fn add_rows<'a, K: Copy, J: Judge<'a, K>>(
+    found: &mut Found<'a>,
+    judge: &J,
+    kind: K,
+    told: usize,
+    wanted: usize,
+) -> Added
+    requires { AreFailures (J.subject judge.now) found.old.places.items }
+    ensures { OnOk result (AreFailures (J.subject judge.now) found.new.places.items) }
+{
+    for number in 0..told.max(wanted) {
+        let place = judge.judge(kind, number);
+        let last = place.is_some() && told != wanted;
+        found.add_some(place)?;
+        if last {
+            break;
+        }
+    }
+    Ok(())
+}
+
+/// Adds the places of the first so many things of a kind, which seem to be wrong: once as many places are kept as may be, it
+/// only counts them.
+pub(crate) fn add_sure<'a, K: Copy, J: Judge<'a, K>>(
+    found: &mut Found<'a>,
+    judge: &J,
+    kind: K,
+    count: usize,
+) -> Added
+    requires { AreFailures (J.subject judge.now) found.old.places.items }
+    ensures { OnOk result (AreFailures (J.subject judge.now) found.new.places.items) }
+{
+    for number in 0..count {
+        if found.is_full() {
+            found.more = found.more.saturating_add((count - number) as u64);
+            return Ok(());
+        }
+        found.add_some(judge.judge(kind, number))?;
+    }
+    Ok(())
 }

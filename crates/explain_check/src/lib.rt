@@ -2,36 +2,32 @@
 //! there and what should be. The clauses are judged by the checker; this crate only looks for places where one says no.
 #![tactic(auto)]
 
-mod clause;
-mod common_lines;
-mod entry;
+mod bytes;
 mod explain;
-mod far_sections;
+mod fill;
 mod found;
-mod line_index;
+mod got;
+mod lines;
 mod map_text;
-mod memory;
-mod memory_place;
-mod named_parts;
-mod object_lines;
+mod memory_text;
+mod parts;
 mod place;
 mod placement;
-mod rights;
-mod section_lines;
-mod seen;
+mod relocation_places;
+mod relocations;
+mod segments;
 mod symbol_lines;
 mod table_bytes;
 mod table_text;
 mod tables;
 mod text;
+mod thread_block;
 
-pub use clause::clause_of;
 pub use explain::{explain_check, read_link};
-pub use found::Found;
-pub use memory_place::{BytePlace, FillPlace, GotBytePlace, SegmentPlace};
+pub use found::{Found, clause_of};
 pub use place::{
-    CheckPlace, CommonLinePlace, DropLinePlace, EntryPlace, MeaningPlace, Neighbours, ObjectAt,
-    ObjectLinePlace, Part, PartName, PlaceLinePlace, SymbolLinePlace, TableByte, TableEntry,
-    TablePlace,
+    BytePlace, CheckPlace, CommonLinePlace, DropLinePlace, EntryPlace, FillPlace, GotBytePlace,
+    MeaningPlace, Neighbours, ObjectAt, ObjectLinePlace, Part, PartName, PlaceLinePlace,
+    SegmentPlace, SymbolLinePlace, TableByte, TableEntry, TablePlace,
 };
 pub use text::write_check_place;

@@ -1,7 +1,12 @@
 //! The places at which a clause fails.
+ghost use Rattle.std.specs.Prelude.{◌≡◌, Some};
+ghost use Rattle.std.specs.List.{slice_get};
+ghost use Rattle.elf_model.specs.Image.RightLink.{objects_of};
+ghost use Rattle.check_load.specs.Views.{loaded_view};
 
-use crate::memory_place::{BytePlace, FillPlace, GotBytePlace, SegmentPlace};
 use check_link::{Block, Meaning, Piece, Placed, Request};
+use check_load::Loaded;
+use checker::BoundLink;
 use elf_model::{Clause, DropLine, GotLine, ProgramHeader, SymtabLine, Thing};
 use input_names::{RelocationFault, RelocationPlace};
 use linkmap::{BorrowedCommon, BorrowedObject, BorrowedPlace, BorrowedSymbol};
@@ -138,6 +143,49 @@ pub enum TablePlace<'a> {
     Byte(TableByte<'a>),
 }
 
+/// A byte of a piece that isn't the wanted one.
+#[derive(Clone, Copy, Debug)]
+pub struct BytePlace<'a> {
+    /// The number of the piece among all, the sections first, from 0.
+    pub number: u64,
+    pub piece: Placed<'a>,
+    /// Which byte of the piece it is, from 0.
+    pub offset: u64,
+    /// The byte that memory has there; None where no segment maps the address.
+    pub there: Option<u8>,
+    pub wanted: u8,
+    /// The relocation whose field the byte is in, where it is told.
+    pub relocation: Option<RelocationPlace<'a>>,
+}
+
+/// A byte of memory outside of all things that isn't the fill of its segment.
+#[derive(Clone, Copy, Debug)]
+pub struct FillPlace {
+    pub address: u64,
+    pub byte: u8,
+    /// The rights X 1, W 2, R 4 in sum.
+    pub rights: u64,
+    pub wanted: u8,
+}
+
+/// A byte of the GOT that isn't the wanted one.
+#[derive(Clone, Copy, Debug)]
+pub struct GotBytePlace {
+    pub got: GotLine,
+    /// Which byte of the GOT it is, from 0.
+    pub offset: u64,
+    /// The byte that memory has there; None where no segment maps the address.
+    pub there: Option<u8>,
+    pub wanted: u8,
+}
+
+/// A PT_LOAD: its number among these, from 0.
+#[derive(Clone, Copy, Debug)]
+pub struct SegmentPlace {
+    pub number: u64,
+    pub header: ProgramHeader,
+}
+
 /// A place at which a clause fails, where there is one.
 pub(crate) type Failure<'a> = Option<CheckPlace<'a>>;
 
@@ -202,11 +250,9 @@ pub enum CheckPlace<'a> {
     Fill(FillPlace),
     /// C11: a PT_LOAD in which no nonempty thing lies.
     EmptySegment(SegmentPlace),
-    /// C11: a PT_LOAD whose memory doesn't end with the last thing in it; where that ends.
-    MemoryEnd(SegmentPlace, u64),
-    /// C11: a PT_LOAD whose file part doesn't end with the last thing in it that has bytes in the file; where that ends,
-    /// or where the segment begins if there is none.
-    FileEnd(SegmentPlace, u64),
+    /// C11: a PT_LOAD whose memory, or whose file part where it is true, doesn't end with the last thing in it that has bytes there;
+    /// where that ends, or where the segment begins if none has bytes in the file.
+    SegmentEnd(SegmentPlace, bool, u64),
     /// C11: a byte of the file in no file part that isn't 0, the first of its gap: its offset and its value.
     Gap(u64, u8),
     /// C11: the length of an image in bytes, and where its last file part ends, with which it must.
@@ -222,4 +268,13 @@ pub enum CheckPlace<'a> {
     /// A clause that fails, of which no place is told: where the inputs themselves are refused, and where the image isn't
     /// one.
     Whole(Clause),
+}
+
+/// An object of a link whose relocations are looked at, with its number.
+#[derive(Drop)]
+pub struct Referrer<'r, 'o, 'a> {
+    pub bound: &'r BoundLink<'o, 'a>,
+    pub number: usize,
+    pub one: &'r Loaded<'a>,
+    ghost own: { slice_get (objects_of bound.now) number ≡ Some (loaded_view one.now) },
 }

@@ -1,23 +1,96 @@
-//! C13: symbol lines that are others than their names ask for, and names that lack their line.
-ghost use Rattle.std.specs.Prelude.{◌≡◌, ◌%◌, ◌^◌, IfSome, OnOk, option_map};
+//! C12 and C13: an entry without a lawful definition, or an `e_entry` that is another than its value; symbol lines that are others
+//! than their names ask for, and names that lack their line.
+ghost use Rattle.std.specs.Prelude.{◌≡◌, ◌%◌, ◌^◌, ℕ, IfNone, IfOk, IfSome, IsTrue, List, None, OnOk, Some, cond, find, map, option_map};
+ghost use Rattle.std.specs.Option.{option_or};
+ghost use Rattle.linkmap.specs.Borrowed.{symbol_row};
 ghost use Rattle.elf_model.specs.Link.Listing.{linker_line, listed};
 ghost use Rattle.elf_model.specs.Link.Meaning.{meaning_value};
-ghost use Rattle.check_link.specs.Views.{meaning_view};
+ghost use Rattle.elf_model.specs.Link.Resolution.{IsEntry, chosen};
+ghost use Rattle.elf_model.specs.Image.RightLink.{Holds, objects_of};
+ghost use Rattle.elf_model.specs.declared.verdict.Clause.TheVariants as clause;
+ghost use Rattle.check_link.specs.Views.{meaning_view, symbol_view};
 ghost use Rattle.check_relocs.specs.LinkerUses.{AreUsed};
+ghost use Rattle.explain_check.specs.LinePlaces.{IsEntryMeaning, IsMeantIf, IsSymbolIndex, is_symbol_row_of, symbol_in};
 ghost use Rattle.explain_check.specs.Places.{AreFailures, FailsIn};
-ghost use Rattle.explain_check.specs.SymbolPlaces.{IsMeantIf};
-ghost use Rattle.explain_check.specs.Listings.{IsListing};
 
-use crate::found::{Added, Found};
-use crate::line_index::{index_symbols, lacks};
-use crate::place::{CheckPlace, Failure, MeaningPlace, SymbolLinePlace};
-use check_link::Meaning;
+use crate::found::{Added, Found, Judge, add_all};
+use crate::place::{CheckPlace, EntryPlace, Failure, MeaningPlace, SymbolLinePlace};
+use check_link::{Link, Meaning, SymbolOf, entry_of};
 use check_relocs::{Bindings, used_names};
 use check_tables::c13_symbols::is_right_line;
 use checker::BoundLink;
 use linkmap::BorrowedSymbol;
-use std::alloc::Global;
+use std::alloc::{AllocError, Global};
 use std::collections::{BTreeMap, BTreeSet};
+
+/// What a name means, with its value.
+fn valued<'a>(bindings: &Bindings<'_, '_, 'a>, meaning: Meaning<'a>) -> MeaningPlace<'a>
+    ensures meaning { result.meaning ≡ meaning.entry }
+    ensures value { result.value ≡ meaning_value bindings.now.places
+        (meaning_view meaning.entry) % 2 ^ 64 }
+{
+    let value = bindings.value_of(&meaning);
+    MeaningPlace { meaning, value }
+}
+
+/// What the entry's name means, with its value, where its chosen definition stands in no section with SHF_TLS.
+fn entry_meaning<'a>(bindings: &Bindings<'_, '_, 'a>, name: &[u8]) -> Option<MeaningPlace<'a>>
+    ensures { IsEntryMeaning bindings.now.objects bindings.now.places name.now result }
+{
+    let symbol = bindings.chosen(name)?;
+    if bindings.is_in_thread_section(&symbol) {
+        return None;
+    }
+    let meaning = bindings.meant(&symbol)?;
+    Some(valued(bindings, meaning))
+}
+
+/// Adds that the twelfth clause fails.
+pub fn add_c12<'a>(found: &mut Found<'a>, bound: &BoundLink<'_, 'a>) -> Added
+    requires fails { ¬ Holds clause.C12 bound.now }
+    requires before { AreFailures bound.now found.old.places.items }
+    ensures { OnOk result (AreFailures bound.now found.new.places.items) }
+{
+    let link = bound.link();
+    let name = entry_of(&link.plan);
+    found.add(CheckPlace::Entry(EntryPlace {
+        name,
+        e_entry: bound.memory().entry(),
+        wanted: entry_meaning(bound.bindings(), name),
+    }))
+}
+
+/// Puts a line into an index by names, unless one of its name is there.
+fn add_line<'m>(
+    index: &mut BTreeMap<&'m [u8], &'m BorrowedSymbol<'m>>,
+    line: &'m BorrowedSymbol<'m>,
+) -> Added
+    ensures { OnOk result ((name : List ℕ) →
+        symbol_in index.new name
+        ≡ option_or (symbol_in index.old name)
+        (cond (is_symbol_row_of name (symbol_row line.entry.now))
+        (Some (symbol_row line.entry.now)) None)) }
+{
+    let name = line.name.as_slice();
+    if !index.contains_key(name) {
+        index.insert(name, line)?;
+    }
+    Ok(())
+}
+
+/// The first of symbol lines of each name.
+fn index_symbols<'m>(
+    alloc: Global,
+    lines: &'m [BorrowedSymbol<'m>],
+) -> Result<BTreeMap<&'m [u8], &'m BorrowedSymbol<'m>>, AllocError>
+    ensures { IfOk result (IsSymbolIndex (map symbol_row lines.entry.now)) }
+{
+    let mut index = BTreeMap::new(alloc);
+    for line in lines {
+        add_line(&mut index, line)?;
+    }
+    Ok(index)
+}
 
 /// What one of the linker's names means that has a line, given these names.
 fn linkers_meaning<'a>(
@@ -49,39 +122,27 @@ fn listed_meaning<'a>(
     }
 }
 
-/// What a name means, with its value.
-pub fn valued<'a>(bindings: &Bindings<'_, '_, 'a>, meaning: Meaning<'a>) -> MeaningPlace<'a>
-    ensures meaning { result.meaning ≡ meaning.entry }
-    ensures value { result.value ≡ meaning_value bindings.now.places
-        (meaning_view meaning.entry) % 2 ^ 64 }
-{
-    let value = bindings.value_of(&meaning);
-    MeaningPlace { meaning, value }
-}
-
 /// A link, the linker's names that have a line in its map, and the map's lines by their names.
 #[derive(Drop)]
 struct Listing<'b, 'o, 'a> {
     bound: &'b BoundLink<'o, 'a>,
     names: BTreeSet<&'a [u8]>,
     index: BTreeMap<&'a [u8], &'a BorrowedSymbol<'a>>,
+    ghost used: { AreUsed (objects_of bound.now) names },
+    ghost rows: { IsSymbolIndex bound.now.map.symbols index },
 }
 
 /// What the name of a line means, with its value, where it has a line.
 fn wanted_of<'a>(listing: &Listing<'_, '_, 'a>, name: &'a [u8]) -> Option<MeaningPlace<'a>>
-    requires { IsListing listing.now }
     ensures { IsMeantIf listing.now.bound.now name.entry.now result }
 {
     let bindings = listing.bound.bindings();
-    match listed_meaning(bindings, &listing.names, name) {
-        Some(meaning) => Some(valued(bindings, meaning)),
-        None => None,
-    }
+    let meaning = listed_meaning(bindings, &listing.names, name)?;
+    Some(valued(bindings, meaning))
 }
 
 /// The symbol line that has a number, where it is another one than its name asks for.
 fn wrong_line<'a>(listing: &Listing<'_, '_, 'a>, k: usize) -> Failure<'a>
-    requires { IsListing listing.now }
     ensures { IfSome result (FailsIn listing.now.bound.now) }
 {
     let link = listing.bound.link();
@@ -98,65 +159,70 @@ fn wrong_line<'a>(listing: &Listing<'_, '_, 'a>, k: usize) -> Failure<'a>
 
 /// A name that lacks the line that it asks for.
 fn missing<'a>(listing: &Listing<'_, '_, 'a>, name: &'a [u8]) -> Failure<'a>
-    requires { IsListing listing.now }
     ensures { IfSome result (FailsIn listing.now.bound.now) }
 {
-    if !lacks(listing.bound.link(), &listing.index, name) {
+    if listing.index.contains_key(name) {
         return None;
     }
-    match wanted_of(listing, name) {
-        Some(meant) => Some(CheckPlace::NoSymbolLine(name, meant)),
-        None => None,
+    let meant = wanted_of(listing, name)?;
+    Some(CheckPlace::NoSymbolLine(name, meant))
+}
+
+/// What is judged by numbers: symbol lines, and names that may lack theirs.
+#[derive(Clone, Copy)]
+enum Row {
+    Line,
+    Name,
+}
+
+/// A listing, and names that may lack their lines.
+#[derive(Drop)]
+struct Lines<'l, 'b, 'o, 'a> {
+    listing: &'l Listing<'b, 'o, 'a>,
+    names: &'l [&'a [u8]],
+}
+
+/// The name that has a number, where it lacks the line that it asks for.
+fn missing_name<'a>(lines: &Lines<'_, '_, '_, 'a>, k: usize) -> Failure<'a>
+    ensures { IfSome result (FailsIn lines.now.listing.now.bound.now) }
+{
+    let name = lines.names.get(k).copied()?;
+    missing(lines.listing, name)
+}
+
+impl<'a> Judge<'a, Row> for Lines<'_, '_, '_, 'a> {
+    ghost subject = { λ l. l.listing.now.bound.now };
+
+    fn judge(&self, row: Row, number: usize) -> Failure<'a> {
+        match row {
+            Row::Line => wrong_line(self.listing, number),
+            Row::Name => missing_name(self, number),
+        }
     }
 }
 
-/// The name of the definition that has a number, where it is chosen and lacks its line.
-fn missing_definition<'a>(listing: &Listing<'_, '_, 'a>, k: usize) -> Failure<'a>
-    requires { IsListing listing.now }
-    ensures { IfSome result (FailsIn listing.now.bound.now) }
-{
+/// The names that lack a line: those that objects define, each once, and the linker's that are used.
+fn lacking_of<'a>(
+    alloc: Global,
+    listing: &Listing<'_, '_, 'a>,
+) -> Result<Vec<&'a [u8]>, AllocError> {
     let bindings = listing.bound.bindings();
-    let symbol = bindings.definitions().get(k)?;
-    if !bindings.is_chosen(&symbol) {
-        return None;
+    let definitions = bindings.definitions();
+    let mut names = Vec::new(alloc);
+    for k in 0..definitions.len() {
+        let Some(symbol) = definitions.get(k) else {
+            continue;
+        };
+        if bindings.is_chosen(&symbol) && !listing.index.contains_key(symbol.name) {
+            names.push(symbol.name)?;
+        }
     }
-    missing(listing, symbol.name)
-}
-
-/// Adds the symbol lines that are others than their names ask for.
-fn add_lines<'a>(found: &mut Found<'a>, listing: &Listing<'_, '_, 'a>) -> Added
-    requires listing { IsListing listing.now }
-    requires before { AreFailures listing.now.bound.now found.old.places.items }
-    ensures { OnOk result (AreFailures listing.now.bound.now found.new.places.items) }
-{
-    for number in 0..listing.bound.link().map.symbols.len() {
-        found.add_some(wrong_line(listing, number))?;
-    }
-    Ok(())
-}
-
-/// Adds the names that objects define and that lack their line.
-fn add_missing_definitions<'a>(found: &mut Found<'a>, listing: &Listing<'_, '_, 'a>) -> Added
-    requires listing { IsListing listing.now }
-    requires before { AreFailures listing.now.bound.now found.old.places.items }
-    ensures { OnOk result (AreFailures listing.now.bound.now found.new.places.items) }
-{
-    for number in 0..listing.bound.bindings().definitions().len() {
-        found.add_some(missing_definition(listing, number))?;
-    }
-    Ok(())
-}
-
-/// Adds the linker's names that lack their line.
-fn add_missing_names<'a>(found: &mut Found<'a>, listing: &Listing<'_, '_, 'a>) -> Added
-    requires listing { IsListing listing.now }
-    requires before { AreFailures listing.now.bound.now found.old.places.items }
-    ensures { OnOk result (AreFailures listing.now.bound.now found.new.places.items) }
-{
     for name in &listing.names {
-        found.add_some(missing(listing, name))?;
+        if !listing.index.contains_key(*name) {
+            names.push(*name)?;
+        }
     }
-    Ok(())
+    Ok(names)
 }
 
 /// Adds where the thirteenth clause fails, but for symbols that aren't sound and second strong definitions of a name.
@@ -172,7 +238,11 @@ pub fn add_c13<'a>(alloc: Global, found: &mut Found<'a>, bound: &BoundLink<'_, '
         names,
         index,
     };
-    add_lines(found, &listing)?;
-    add_missing_definitions(found, &listing)?;
-    add_missing_names(found, &listing)
+    let names = lacking_of(alloc, &listing)?;
+    let lines = Lines {
+        listing: &listing,
+        names: &names,
+    };
+    add_all(found, &lines, Row::Line, link.map.symbols.len())?;
+    add_all(found, &lines, Row::Name, names.len())
 }

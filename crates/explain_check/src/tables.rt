@@ -98,26 +98,9 @@ fn wrong_headers<'a>(bound: &BoundLink<'_, 'a>, wanted: u64) -> Failure<'a>
     Some(CheckPlace::Table(TablePlace::Headers(header.e_shoff, wanted)))
 }
 
-/// Whether two bytes, as far as there are such, are the same.
-fn are_same(a: Option<u8>, b: Option<u8>) -> bool
-    ensures { IsTrue result ↔ (a ≡ b) }
-{
-    match (a, b) {
-        (Some(x), Some(y)) => x == y,
-        (None, None) => true,
-        (Some(_), None) | (None, Some(_)) => false,
-    }
-}
-
-fn byte_at(bytes: &[u8], i: usize) -> Option<u8>
-    ensures { slice_get bytes.now i ≡ result }
-{
-    bytes.get(i).copied()
-}
-
 /// The first offset at which two runs differ.
 fn first_difference(a: &[u8], b: &[u8]) -> Option<usize> {
-    (0..a.len().max(b.len())).find(|i| !are_same(byte_at(a, *i), byte_at(b, *i)))
+    (0..a.len().max(b.len())).find(|i| a.get(*i) != b.get(*i))
 }
 
 /// The entry that a byte after the last file part is in, with its name; the table begins after a number of zeros.
@@ -156,9 +139,9 @@ fn wrong_byte<'a>(
 {
     let _bound = bound;
     let i = first_difference(bytes, wanted)?;
-    let there = byte_at(bytes, i);
-    let wanted = byte_at(wanted, i);
-    if are_same(there, wanted) {
+    let there = bytes.get(i).copied();
+    let wanted = wanted.get(i).copied();
+    if there == wanted {
         return None;
     }
     let padding = (eight_up(end) - end) as usize;

@@ -1,8 +1,8 @@
 //! How a place of a failed check reads: a line that says what is there, and what should be.
 
-use crate::clause::kind_of;
+use crate::found::kind_of;
 use crate::map_text::write_line;
-use crate::memory::text::{write_got, write_memory, write_relocation, write_thread};
+use crate::memory_text::{write_got, write_memory, write_relocation, write_thread};
 use crate::place::{CheckPlace, EntryPlace, Neighbours, Part, PartName};
 use check_link::{Link, Piece, Placed};
 use elf_model::{Clause, ProgramHeader};

@@ -1,0 +1,16 @@
+use Rattle.std.proofs.Common.{arith, subst}
+use Rattle.elf_model.specs.declared.verdict.Clause.TheVariants.{C5}
+use Rattle.check_link.specs.PieceParts.{AreInLimit}
+use Rattle.checker.proofs.PlacedFacts.{got_in_limit, in_limit}
+use Rattle.explain_check.proofs.thread_block.add_c8.Goals as goal
+
+-- of the clauses before, the fifth says where the pieces and the GOT end
+pub end_of-end-requires : goal.end_of-end-requires
+end_of-end-requires c = in_limit c.args.bound.now c.placed.result.now c.placed.ensures (c.requires.clauses C5 (omega arith))
+
+pub invariant_of-block-clause-got : goal.invariant_of-block-clause-got
+invariant_of-block-clause-got c = got_in_limit c.args.bound.now (c.requires.clauses C5 (omega arith))
+
+pub invariant_of-block-clause-pieces : goal.invariant_of-block-clause-pieces
+invariant_of-block-clause-pieces c =
+    subst AreInLimit c.placed.ensures (in_limit c.args.bound.now c.placed.result.now c.placed.ensures (c.requires.clauses C5 (omega arith)))
