@@ -58,7 +58,7 @@ pub fn phase_of(error: &LinkError) -> Phase
 
 impl<'a> Place<'a> {
     /// The phase of the errors that a place is of.
-    pub(crate) fn phase(&self) -> Phase
+    pub fn phase(&self) -> Phase
         ensures { result ≡ place_phase self.now }
     {
         match self {
