@@ -9,7 +9,7 @@ use Rattle.elf_model.specs.Image.MapText.{IsMap}
 use Rattle.elf_model.specs.Image.MemoryImage.{loads, thread_blocks}
 use Rattle.elf_model.specs.Link.Pieces.{is_thread_zero, kept_sections}
 use Rattle.elf_model.specs.Link.Placement.{AreApart, HasRights, IsNear, IsPlaced, IsWithin, LiesInSegment, Placed, got_things, headers_thing, is_thread_place, thing_of, thread_ranges}
-use Rattle.elf_model.specs.Image.RightLink.{AreSectionsListed, AreSymbolsListed, AreTablesRight, EndsRight, Holds, HoldsInitial, HoldsPiece, HoldsTables, IsClearOf, IsLoaded, Subject, facts_of_piece, facts_of_row, objects_of, placed_of, symbol_row_of, things_of, thread_data_end, where_of, HoldsGot, StandFrom, other_things}
+use Rattle.elf_model.specs.Image.RightLink.{AreTablesRight, EndsRight, Holds, HoldsInitial, HoldsPiece, HoldsTables, IsClearOf, Subject, facts_of_piece, facts_of_row, objects_of, placed_of, symbol_row_of, things_of, thread_data_end, where_of, HoldsGot, StandFrom, other_things}
 use Rattle.linkmap.specs.Borrowed.{symbol_row}
 use Rattle.elf_model.specs.declared.link_map.GotLine.{GotLine}
 use Rattle.elf_model.specs.declared.link_map.SymtabLine.{SymtabLine}

@@ -3,7 +3,7 @@ use Rattle.std.proofs.Common.{◌≡◌, ℕ, ◌≤◌, ◌+◌, ◌-◌, ◌%�
 use Rattle.std.specs.Prelude.{IfSome, IsSomeAnd}
 use Rattle.elf_model.specs.Link.Loading.{LoadedObject}
 use Rattle.elf_model.specs.Inputs.ObjectFile.{rela_symbol, rela_type, section, sections}
-use Rattle.elf_model.specs.Link.Placement.{Where, got_start, section_address}
+use Rattle.elf_model.specs.Link.Placement.{got_start, section_address}
 use Rattle.elf_model.specs.Link.Relocation.{IsInRange, IsMismatch, Kind, Relocation, kind_of, relocation_of, symbol_at}
 use Rattle.elf_model.specs.Link.RelocationValues.{Fits, value_of}
 use Rattle.elf_model.specs.Image.RightLink.{Subject, objects_of, where_of}

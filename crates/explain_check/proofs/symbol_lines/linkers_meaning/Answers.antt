@@ -1,4 +1,4 @@
-use Rattle.std.proofs.Common.{◌≡◌, ◌∙◌, Option, Some, None, ap, cond, sym, option_map}
+use Rattle.std.proofs.Common.{◌∙◌, Option, None, ap, cond, sym, option_map}
 use Rattle.elf_model.proofs.LinkerUses.{line_among}
 use Rattle.elf_model.specs.Link.LinkerNames.{bound_of}
 use Rattle.elf_model.specs.Link.Meaning.{Linker, Meaning}

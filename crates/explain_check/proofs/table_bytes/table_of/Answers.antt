@@ -1,8 +1,6 @@
-use Rattle.std.proofs.Common.{List, [], ap, drop, map, subst}
+use Rattle.std.proofs.Common.{List, ap, drop, subst}
 use Rattle.std.proofs.lemmas.List.{drop_all}
-use Rattle.linkmap.specs.Borrowed.{symbol_row}
 use Rattle.elf_model.specs.Link.Meaning.{Meaning}
-use Rattle.elf_model.specs.Image.SymbolTable.{tabled}
 use Rattle.check_tables.proofs.TableLines.{here, later, line_tabled, lines_split}
 use Rattle.explain_check.proofs.TableBuilding.{built_more}
 use Rattle.explain_check.specs.TablePlaces.{AreBuilt}

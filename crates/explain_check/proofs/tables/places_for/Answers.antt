@@ -1,6 +1,6 @@
 use Rattle.std.proofs.Common.{ap, arith, length}
 use Rattle.elf_model.specs.Image.RightLink.{tabled_of, where_of}
-use Rattle.explain_check.proofs.TableBuilding.{strings_built, symbols_length}
+use Rattle.explain_check.proofs.TableBuilding.{strings_built}
 use Rattle.explain_check.proofs.tables.places_for.Goals as goal
 
 pub returns-clause-places : goal.returns-clause-places
