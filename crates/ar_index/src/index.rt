@@ -155,14 +155,24 @@ pub fn is_index_first(stored: &[StoredMember<'_>]) -> bool
     }
 }
 
-/// Whether every entry names one of the members, which stand by offset.
+/// Whether every entry names one of the members, which stand by offset. Those that name the same one mostly follow each other,
+/// and it is looked up once for them.
 fn are_of_members(members: &[Member<'_>], entries: &[IndexEntry<'_>]) -> bool
     requires { AreAscending members.now }
     ensures { IsTrue result ↔ All (λ e. IsSome (archive.data_of members.now e.offset)) entries.now }
 {
-    entries
-        .iter()
-        .all(|e| data_at(members, e.offset()).is_some())
+    let mut known = None;
+    for entry in entries {
+        let offset = entry.offset();
+        if known == Some(offset) {
+            continue;
+        }
+        if data_at(members, offset).is_none() {
+            return false;
+        }
+        known = Some(offset);
+    }
+    true
 }
 
 /// Whether every entry of the index, where there is one, names one of the members, which stand by offset.
