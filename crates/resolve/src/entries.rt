@@ -91,7 +91,7 @@ pub fn symbol_numbered<'a>(loaded: &Loaded<'a>, symbol: SymbolRef) -> Option<Sym
     let j = symbol.symbol as usize;
     let own = loaded.objects().get(symbol.object.0 as usize)?;
     let entry = own.object.symbols().get(j)?;
-    Some(symbol_in(symbol.object.0, own, j, &entry))
+    Some(named_symbol(loaded, symbol.object.0, own, j, &entry))
 }
 
 /// Whether a symbol of an object stands in a section that is dropped.
