@@ -15,3 +15,5 @@ pub mod LinkerMeanings
 pub mod LocalReferences
 pub mod ShortFields
 pub mod SymbolTables
+pub mod NearValues
+pub mod PlainFields

@@ -6,3 +6,4 @@ pub mod References
 pub mod Values
 pub mod Uses
 pub mod SymbolTables
+pub mod PlainFields
