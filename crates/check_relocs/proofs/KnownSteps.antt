@@ -1,9 +1,33 @@
 -- What is known of things that have numbers, when nothing is known yet, and with one answer more.
-use Rattle.std.proofs.Common.{◌≡◌, ℕ, ◌<◌, ◌≤◌, ◌⊎◌, inl, inr, List, Option, Some, None, length, set, sym, ap, subst, arith}
+use Rattle.std.proofs.Common.{◌≡◌, ℕ, ◌<◌, ◌≤◌, ◌⊎◌, inl, inr, List, Option, Some, None, get_or, length, set, sym, subst, arith}
 use Rattle.std.specs.Prelude.{IfSome}
 use Rattle.std.proofs.lemmas.List.{get_or_past, get_or-set_other, get_or-set_same, length-set}
 use Rattle.check_link.proofs.Padded.{below_or_not}
 use Rattle.check_relocs.specs.Known.{AreKnown, known_at}
+
+-- a fact of the elements of a list, where past its end stands one of which the fact holds at each number
+module _ {X : Type 0} (fact : ℕ → X → Type 0) (none : X) (past : (k : ℕ) → fact k none) where
+  -- one element more
+  pub kept_more :
+      (xs new : List X) (j : ℕ) (x : X) → new ≡ set xs j x → ((k : ℕ) → fact k (get_or xs k none)) → fact j x → (k : ℕ) → fact k (get_or new k none)
+  kept_more xs new j x put are here k = subst (λ (l : List X). fact k (get_or l k none)) (sym put) (by (below_or_not k j) (below_or_not j k))
+    where
+      other : (j ≡ k → ⊥) → fact k (get_or (set xs j x) k none)
+      other apart = subst (fact k) (sym (get_or-set_other xs j k x none (λ e. apart (sym e)))) (are k)
+
+      at : (j < length xs) ⊎ (length xs ≤ j) → fact j (get_or (set xs j x) j none)
+      at (inl low) = subst (fact j) (sym (get_or-set_same xs j x none low)) here
+      at (inr high) =
+          let long = length-set xs j x in
+          subst (fact j) (sym (get_or_past (set xs j x) j none (omega (arith, high, long)))) (past j)
+
+      same : j ≡ k → fact k (get_or (set xs j x) k none)
+      same e = subst (λ (i : ℕ). fact i (get_or (set xs j x) i none)) e (at (below_or_not j (length xs)))
+
+      by : (k < j) ⊎ (j ≤ k) → (j < k) ⊎ (k ≤ j) → fact k (get_or (set xs j x) k none)
+      by (inl low) either = other (λ e. absurd (omega (arith, low, e)))
+      by (inr high) (inl low) = other (λ e. absurd (omega (arith, low, e)))
+      by (inr high) (inr behind) = same (omega (arith, high, behind))
 
 module _ {X : Type 0} (fact : ℕ → X → Type 0) where
   as_known : (o p : Option X) (k : ℕ) → p ≡ o → IfSome o (fact k) → IfSome p (fact k)
@@ -23,22 +47,4 @@ module _ {X : Type 0} (fact : ℕ → X → Type 0) where
 
   -- one answer more
   pub known_more : (ks new : List (Option X)) (j : ℕ) (x : X) → new ≡ set ks j (Some x) → AreKnown fact ks → fact j x → AreKnown fact new
-  known_more ks new j x put are here k =
-      as_known (known_at (set ks j (Some x)) k) (known_at new k) k (ap (λ (l : List (Option X)). known_at l k) put) (by (below_or_not k j) (below_or_not j k))
-    where
-      other : (j ≡ k → ⊥) → IfSome (known_at (set ks j (Some x)) k) (fact k)
-      other apart = as_known (known_at ks k) (known_at (set ks j (Some x)) k) k (get_or-set_other ks j k (Some x) None (λ e. apart (sym e))) (are k)
-
-      at : (j < length ks) ⊎ (length ks ≤ j) → IfSome (known_at (set ks j (Some x)) j) (fact j)
-      at (inl low) = as_known (Some x) (known_at (set ks j (Some x)) j) j (get_or-set_same ks j (Some x) None low) here
-      at (inr past) =
-          let long = length-set ks j (Some x) in
-          as_known None (known_at (set ks j (Some x)) j) j (get_or_past (set ks j (Some x)) j None (omega (arith, past, long))) tt
-
-      same : j ≡ k → IfSome (known_at (set ks j (Some x)) k) (fact k)
-      same e = subst (λ (i : ℕ). IfSome (known_at (set ks j (Some x)) i) (fact i)) e (at (below_or_not j (length ks)))
-
-      by : (k < j) ⊎ (j ≤ k) → (j < k) ⊎ (k ≤ j) → IfSome (known_at (set ks j (Some x)) k) (fact k)
-      by (inl low) either = other (λ e. absurd (omega (arith, low, e)))
-      by (inr past) (inl low) = other (λ e. absurd (omega (arith, low, e)))
-      by (inr past) (inr behind) = same (omega (arith, past, behind))
+  known_more ks new j x put are here = kept_more (λ k o. IfSome o (fact k)) None (λ k. tt) ks new j (Some x) put are here

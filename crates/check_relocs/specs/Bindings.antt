@@ -1,15 +1,14 @@
 -- What the names and the symbols of objects mean.
-use Rattle.std.specs.Prelude.{◌≡◌, ◌↔◌, ℕ, ◌%◌, ◌^◌, ◌&&◌, not, true, false, IsTrue, List, IsSomeAnd, Option, option_map, unwrap_or}
+use Rattle.std.specs.Prelude.{◌≡◌, ◌↔◌, ◌%◌, ◌^◌, ◌&&◌, not, true, false, IsTrue, List, IsSomeAnd, option_map, unwrap_or}
 use Rattle.std.specs.Option.{option_map_or}
 use Rattle.elf_model.specs.Link.Loading.{LoadedObject}
 use Rattle.elf_model.specs.Link.Pieces.{Piece, is_alloc, kept_sections}
 use Rattle.elf_model.specs.Link.Meaning.{is_in_thread_storage, meaning_size, meaning_value}
 use Rattle.elf_model.specs.Link.Placement.{Where}
-use Rattle.elf_model.specs.Link.Relocation.{IsMixed, IsUndefined, definition_of, is_local, symbol_at}
+use Rattle.elf_model.specs.Link.Relocation.{IsMixed, IsUndefined, definition_of, is_local}
 use Rattle.elf_model.specs.Link.Resolution.{SymbolOf, section_of}
 use Rattle.elf_model.specs.Image.RightLink.{Subject, objects_of, where_of}
 use Rattle.check_link.specs.Slots.{Slots}
-use Rattle.check_relocs.specs.Known.{AreKnown}
 use Rattle.check_relocs.specs.declared.targets.Target.{Target}
 
 -- the objects and where their pieces are, which give symbols their meaning
@@ -34,10 +33,6 @@ pub record IsTargetOf (b : Bound) (s : SymbolOf) (t : Target) : Type 0 where
   pub thread_local : t.thread_local ≡ option_map_or (is_in_thread_storage b.objects) (definition_of b.objects s) false
   pub value : t.value ≡ unwrap_or (option_map (meaning_value b.places) (definition_of b.objects s)) 0 % 2 ^ 64
   pub size : t.size ≡ unwrap_or (option_map meaning_size (definition_of b.objects s)) 0
-
--- what is known of the symbols of the object that has a number is what they mean
-abbrev pub AreTargets : Bound → ℕ → LoadedObject → List (Option Target) → Type 0
-AreTargets b object o ts = AreKnown (λ j t. IsTargetOf b (symbol_at object o j) t) ts
 
 -- the output sections, the slots and the places of objects belong together
 pub record AreBindings (objects : List LoadedObject) (outputs : List Piece) (slots : Slots) (places : Where) : Type 0 where

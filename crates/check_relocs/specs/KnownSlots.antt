@@ -5,8 +5,8 @@ use Rattle.elf_model.specs.Link.Relocation.{symbol_at}
 use Rattle.elf_model.specs.Link.Slots.{Request, requested_address, target_of}
 use Rattle.elf_model.specs.Image.MapRecord.{SlotRow}
 use Rattle.check_link.specs.Slots.{kind_view, line_of}
-use Rattle.check_relocs.specs.Bindings.{AreTargets}
 use Rattle.check_relocs.specs.Known.{AreKnown}
+use Rattle.check_relocs.specs.KnownTargets.{AreTargetsKnown}
 use Rattle.check_relocs.specs.Referrers.{object_here}
 use Rattle.check_relocs.specs.declared.known_symbols.KnownSymbols.{KnownSymbols}
 use Rattle.check_relocs.specs.declared.referrer.Referrer.{Referrer}
@@ -43,5 +43,5 @@ AreAsked unserved marks r ts = AreKnown (λ j t. IsNoted (rows_here r) unserved 
 
 -- both what they mean and where their slots are
 pub record AreSymbolsKnown (r : Referrer) (known : KnownSymbols) : Type 0 where
-  pub targets : AreTargets r.bindings.now r.number (object_here r) known.targets.items
+  pub targets : AreTargetsKnown r known.targets.items
   pub slots : AreSlots r known.slots.items

@@ -4,8 +4,10 @@ pub mod Fields
 pub mod Kinds
 pub mod Known
 pub mod KnownSlots
+pub mod KnownTargets
 pub mod LawfulFields
 pub mod LinkerUses
 pub mod Needs
+pub mod PlainValues
 pub mod Referrers
 pub mod Widths

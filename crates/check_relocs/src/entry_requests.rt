@@ -16,7 +16,7 @@ use check_load::Loaded;
 use elf_model::{Rela, SlotKind};
 
 /// The slot for which a formula asks: one for a value where it has G, one for a thread offset where it has GT.
-fn slot_kind_of(formula: Formula) -> Option<SlotKind>
+pub fn slot_kind_of(formula: Formula) -> Option<SlotKind>
     ensures { result ≡ slots.slot_kind_of (formula_view formula) }
 {
     match formula {

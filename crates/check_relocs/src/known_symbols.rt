@@ -2,15 +2,15 @@
 ghost use Rattle.std.specs.Prelude.{IfOk};
 ghost use Rattle.check_relocs.specs.KnownSlots.{AreSymbolsKnown};
 
+use crate::known_targets::{KnownTarget, unknown_targets};
 use crate::referrer::Referrer;
 use crate::slots::{SymbolSlot, unknown_slots};
-use crate::targets::{Target, unknown_targets};
 use std::alloc::{AllocError, Global};
 
 /// What the symbols of an object mean, and where their slots are: each once a relocation asked.
 #[derive(Drop)]
 pub struct KnownSymbols {
-    pub targets: Vec<Option<Target>>,
+    pub targets: Vec<KnownTarget>,
     pub slots: Vec<Option<SymbolSlot>>,
 }
 

@@ -1,9 +1,7 @@
 //! Whether one relocation is lawful and its value fits, and its field.
 ghost use Rattle.std.specs.Prelude.{◌≡◌, ◌-◌, ◌↔◌, ℕ, IsTrue, Some, SomeIff};
-ghost use Rattle.elf_model.specs.Inputs.ObjectFile.{rela_type};
 ghost use Rattle.elf_model.specs.Link.Placement.{got_start};
-ghost use Rattle.elf_model.specs.Link.Relocation.{IsMismatch, relocation_of};
-ghost use Rattle.elf_model.specs.Link.Relocation as relocation;
+ghost use Rattle.elf_model.specs.Link.Relocation.{IsMismatch, relocation_kind, relocation_of};
 ghost use Rattle.elf_model.specs.Link.Slots.{slot_address};
 ghost use Rattle.check_load.specs.Views.{loaded_view};
 ghost use Rattle.check_relocs.specs.KnownSlots.{AreSymbolsKnown};
@@ -19,9 +17,10 @@ use crate::entry_requests::request_of;
 use crate::fields::Field;
 use crate::kinds::{Formula, Kind, kind_of};
 use crate::known_symbols::KnownSymbols;
+use crate::known_targets::own_target_at;
 use crate::referrer::Referrer;
 use crate::slots::slot_at;
-use crate::targets::{Target, own_target_at};
+use crate::targets::Target;
 use crate::values::{Terms, fits, value_of};
 use check_load::{KeptRelocation, Loaded};
 use elf_model::Rela;
@@ -114,21 +113,6 @@ fn field_with(
     })
 }
 
-/// The field of an entry whose symbol means a target; None where it isn't lawful, and where its value
-/// doesn't fit.
-fn field_for(target: &Target, to: &Relocated, given: &LinkTerms, entry: &Rela) -> Option<Field>
-    ensures { SomeIff result
-        (IsRightWith (relocation.kind_of
-        (rela_type entry.now)) target.now to.now given.now entry.now)
-        (field_with (relocation.kind_of
-        (rela_type entry.now)) target.now to.now given.now entry.now) }
-{
-    let Some(kind) = kind_of(entry.kind()) else {
-        return None;
-    };
-    field_with(&kind, target, to, given, entry)
-}
-
 /// The address of the slot for which an entry asks, 0 where it asks for none and where there is none.
 fn slot_address<'a>(
     bindings: &Bindings<'_, '_, 'a>,
@@ -178,6 +162,34 @@ pub fn link_terms<'a>(
     terms_with_slot(bindings, address)
 }
 
+/// The field of a relocation of a kind, given what it relocates; None where it isn't lawful, and where its value doesn't fit.
+fn right_field_of<'a>(
+    here: &Referrer<'_, '_, '_, 'a>,
+    known: &mut KnownSymbols,
+    to: &Relocated,
+    relocation: &KeptRelocation,
+    kind: &Kind,
+) -> Option<Field>
+    requires known { AreSymbolsKnown here.now known.old }
+    requires to { IsRelocated here.now to.now }
+    requires section { to.now.section ≡ relocation.now.section }
+    requires kind { relocation_kind (relocation_here here.now relocation.now)
+        ≡ Some (kind_view kind.now) }
+    requires width { IsWidth kind.now.width }
+    ensures kept { AreSymbolsKnown here.now known.new }
+    ensures field { SomeIff result
+        (IsRight (objects_here here.now) here.now.bindings.now.places
+        (relocation_here here.now relocation.now))
+        (field_of (objects_here here.now) here.now.bindings.now.places
+        (relocation_here here.now relocation.now)) }
+{
+    let j = relocation.entry.symbol() as usize;
+    let target = own_target_at(here, &mut known.targets, j);
+    let address = slot_at(here, &mut known.slots, relocation, kind);
+    let given = terms_with_slot(here.bindings, address);
+    field_with(kind, &target, to, &given, &relocation.entry)
+}
+
 /// The field of a relocation, given what it relocates; None where it isn't lawful, and where its value doesn't fit.
 pub fn right_field<'a>(
     here: &Referrer<'_, '_, '_, 'a>,
@@ -195,9 +207,8 @@ pub fn right_field<'a>(
         (field_of (objects_here here.now) here.now.bindings.now.places
         (relocation_here here.now relocation.now)) }
 {
-    let j = relocation.entry.symbol() as usize;
-    let target = own_target_at(here, &mut known.targets, j);
-    let address = slot_at(here, &mut known.slots, relocation);
-    let given = terms_with_slot(here.bindings, address);
-    field_for(&target, to, &given, &relocation.entry)
+    match kind_of(relocation.entry.kind()) {
+        Some(kind) => right_field_of(here, known, to, relocation, &kind),
+        None => None,
+    }
 }

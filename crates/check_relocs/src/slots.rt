@@ -1,12 +1,15 @@
 //! Where the slots are for which relocations ask, each looked up once for a symbol of an object.
 ghost use Rattle.std.specs.Prelude.{◌≡◌, ℕ, IfOk, IfSome, None, Some, slice_set};
+ghost use Rattle.elf_model.specs.Link.Relocation.{relocation_kind};
 ghost use Rattle.elf_model.specs.Link.Slots.{requested_address, slot_address};
 ghost use Rattle.check_link.specs.Slots.{line_of};
 ghost use Rattle.check_relocs.specs.Known.{known_at};
+ghost use Rattle.check_relocs.specs.Kinds.{kind_view};
 ghost use Rattle.check_relocs.specs.KnownSlots.{AreSlots, request_here, rows_here};
 ghost use Rattle.check_relocs.specs.Referrers.{relocation_here};
 
-use crate::entry_requests::{kind_asked, target_at};
+use crate::entry_requests::{slot_kind_of, target_at};
+use crate::kinds::Kind;
 use crate::referrer::Referrer;
 use crate::targets::{has_relas, is_local_at};
 use check_link::{Request, is_thread};
@@ -118,20 +121,23 @@ fn address_at(
     address
 }
 
-/// The address of the slot for which a relocation asks, 0 where it asks for none and where there is none.
+/// The address of the slot for which a relocation of a kind asks, 0 where it asks for none and where there is none.
 pub fn slot_at(
     here: &Referrer<'_, '_, '_, '_>,
     slots: &mut Vec<Option<SymbolSlot>>,
     relocation: &KeptRelocation,
+    kind: &Kind,
 ) -> u64
-    requires { AreSlots here.now slots.old.items }
+    requires slots { AreSlots here.now slots.old.items }
+    requires kind { relocation_kind (relocation_here here.now relocation.now)
+        ≡ Some (kind_view kind.now) }
     ensures kept { AreSlots here.now slots.new.items }
     ensures address { result ≡ slot_address here.now.bindings.now.places.slots
         (relocation_here here.now relocation.now) }
 {
-    let Some(kind) = kind_asked(&relocation.entry) else {
+    let Some(asked) = slot_kind_of(kind.formula) else {
         return 0;
     };
     let j = relocation.entry.symbol() as usize;
-    address_at(here, slots, j, is_thread(kind))
+    address_at(here, slots, j, is_thread(asked))
 }

@@ -1,9 +1,8 @@
-//! What the symbols of an object mean to its relocations, each looked up once.
-ghost use Rattle.std.specs.Prelude.{◌≡◌, ◌↔◌, ◌<◌, ℕ, [], IfOk, IsTrue, Some, length, slice_set, true};
+//! What the symbols of an object mean to its relocations.
+ghost use Rattle.std.specs.Prelude.{◌≡◌, ◌↔◌, ◌<◌, ℕ, [], IsTrue, false, length, true};
 ghost use Rattle.elf_model.specs.Link.Relocation.{is_local, symbol_at};
-ghost use Rattle.check_relocs.specs.Bindings.{AreTargets, Bound, IsTargetOf};
-ghost use Rattle.check_relocs.specs.Known.{known_at};
-ghost use Rattle.check_relocs.specs.Referrers.{object_here, symbol_here};
+ghost use Rattle.check_relocs.specs.Bindings.{IsTargetOf};
+ghost use Rattle.check_relocs.specs.Referrers.{symbol_here};
 ghost use Rattle.check_load.specs.Kept.{kept_relas};
 ghost use Rattle.check_load.specs.Views.{loaded_view};
 ghost use Rattle.check_link.specs.Views.{symbol_view};
@@ -11,9 +10,8 @@ ghost use Rattle.check_link.specs.Views.{symbol_view};
 use crate::bindings::Bindings;
 use crate::referrer::Referrer;
 use check_link::SymbolOf;
-use check_load::{Loaded, filled};
+use check_load::Loaded;
 use elf_model::STB_LOCAL;
-use std::alloc::{AllocError, Global};
 
 /// What a symbol means to relocations: whether it lacks a definition, whether it is a LOCAL one of a
 /// section that isn't kept, whether it stands in a dropped section, whether its definition is a bound of sections of
@@ -113,68 +111,23 @@ pub fn entry_count(loaded: &Loaded<'_>) -> usize {
     count
 }
 
-/// Where what symbols mean will be kept once it is known, of none yet; no room where the object has no relocations.
-pub fn unknown_targets(
-    alloc: Global,
-    loaded: &Loaded<'_>,
-) -> Result<Vec<Option<Target>>, AllocError>
-    ensures { IfOk result (λ v. (b : Bound) (number : ℕ) →
-        AreTargets b number (loaded_view loaded.now) v.items) }
+/// What symbol `j` of an object means, a LOCAL one. Its name isn't read.
+#[inline(never)]
+fn own_local_target<'a>(here: &Referrer<'_, '_, '_, 'a>, j: usize) -> Target
+    requires { is_local (symbol_here here.now j) ≡ true }
+    ensures { IsTargetOf here.now.bindings.now (symbol_here here.now j) result }
 {
-    if !has_relas(loaded) {
-        return Ok(Vec::new(alloc));
-    }
-    let targets = filled(alloc, None, loaded.object.symbols().len())?;
-    Ok(targets)
+    here.bindings
+        .local_target(&unnamed_at(here.loaded, here.number, j))
 }
 
-/// Keeps what symbol `j` means, where there is room for it.
-fn keep_target(targets: &mut Vec<Option<Target>>, j: usize, target: Target)
-    ensures { targets.new.items ≡ slice_set targets.old.items j (Some target) }
-{
-    if j < targets.len() {
-        targets[j] = Some(target);
-    }
-}
-
-/// What symbol `j` means, where that is known.
-fn known_target(targets: &[Option<Target>], j: usize) -> Option<Target>
-    ensures { result ≡ known_at targets.now j }
-{
-    match targets.get(j) {
-        Some(target) => *target,
-        None => None,
-    }
-}
-
-/// What symbol `j` means. It is looked up where that isn't known.
-pub fn target_at<'a>(
-    bindings: &Bindings<'_, '_, 'a>,
-    targets: &mut Vec<Option<Target>>,
-    number: u64,
-    loaded: &Loaded<'a>,
-    j: usize,
-) -> Target
-    requires { AreTargets bindings.now number (loaded_view loaded.now) targets.old.items }
-    ensures kept { AreTargets bindings.now number (loaded_view loaded.now) targets.new.items }
-    ensures target { IsTargetOf bindings.now (symbol_at number (loaded_view loaded.now) j) result }
-{
-    if let Some(target) = known_target(targets, j) {
-        return target;
-    }
-    let target = target_of_symbol(bindings, number, loaded, j);
-    keep_target(targets, j, target);
-    target
-}
-
-/// What symbol `j` of an object means. Of a LOCAL one the name isn't read, nor where loading noted it and an object defines it.
-fn own_target_of<'a>(here: &Referrer<'_, '_, '_, 'a>, j: usize) -> Target
+/// What symbol `j` of an object means, one that isn't LOCAL. Its name isn't read where loading noted it and an object defines it.
+#[inline(never)]
+fn own_visible_target<'a>(here: &Referrer<'_, '_, '_, 'a>, j: usize) -> Target
+    requires { is_local (symbol_here here.now j) ≡ false }
     ensures { IsTargetOf here.now.bindings.now (symbol_here here.now j) result }
 {
     let (bindings, number, loaded) = (here.bindings, here.number, here.loaded);
-    if is_local_at(loaded, j) {
-        return bindings.local_target(&unnamed_at(loaded, number, j));
-    }
     match bindings.noted_choice(number, j as u64) {
         Some(chosen) => {
             bindings.target_chosen(&named_at(loaded, number, j, chosen.name), &chosen)
@@ -183,22 +136,12 @@ fn own_target_of<'a>(here: &Referrer<'_, '_, '_, 'a>, j: usize) -> Target
     }
 }
 
-/// What symbol `j` of an object means. It is looked up where that isn't known.
-pub fn own_target_at<'a>(
-    here: &Referrer<'_, '_, '_, 'a>,
-    targets: &mut Vec<Option<Target>>,
-    j: usize,
-) -> Target
-    requires { AreTargets here.now.bindings.now here.now.number
-        (object_here here.now) targets.old.items }
-    ensures kept { AreTargets here.now.bindings.now here.now.number
-        (object_here here.now) targets.new.items }
-    ensures target { IsTargetOf here.now.bindings.now (symbol_here here.now j) result }
+/// What symbol `j` of an object means.
+pub fn own_target_of<'a>(here: &Referrer<'_, '_, '_, 'a>, j: usize) -> Target
+    ensures { IsTargetOf here.now.bindings.now (symbol_here here.now j) result }
 {
-    if let Some(target) = known_target(targets, j) {
-        return target;
+    if is_local_at(here.loaded, j) {
+        return own_local_target(here, j);
     }
-    let found = own_target_of(here, j);
-    keep_target(targets, j, found);
-    found
+    own_visible_target(here, j)
 }

@@ -52,7 +52,8 @@ fn less_of(formula: Formula, terms: Terms) -> u64
 }
 
 /// A sum with an addend, less a number, modulo 2^64.
-fn shifted(base: u64, addend: i64, less: u64) -> u64
+#[inline(always)]
+pub fn shifted(base: u64, addend: i64, less: u64) -> u64
     ensures { (b l : ℕ) → base ≡ b % 2 ^ 64 → less ≡ l % 2 ^ 64
         → result ≡ modulo_64 ((pos b +ℤ addend) -ℤ pos l) }
 {
@@ -60,6 +61,7 @@ fn shifted(base: u64, addend: i64, less: u64) -> u64
 }
 
 /// A value modulo 2^64, of an addend and the other terms.
+#[inline(always)]
 pub fn value_of(formula: Formula, addend: i64, terms: Terms) -> u64
     ensures { result ≡ modulo_64 (whole_value (formula_view formula) (terms_view terms addend)) }
 {
@@ -97,6 +99,7 @@ fn is_unsigned(half: u64, value: u64) -> bool
 }
 
 /// Whether a value of 64 bits fits a field of a width.
+#[inline(always)]
 pub fn fits(range: Range, width: u64, value: u64) -> bool
     requires { IsWidth width }
     ensures { IsTrue result ↔ IsInRange (range_view range) (8 * width) value }

@@ -30,6 +30,13 @@ pub record AreMatched (held bytes : List ℕ) (fs : List Field) (end : ℕ) : Ty
   pub ended : All (λ f. f.at + f.width ≤ end) fs
   pub rising : AllPairs EndsBefore fs
 
+-- the field of a relocation of an object, and that it is right
+abbrev pub field_here : Referrer → Relocation → Field
+field_here r x = field_of (objects_here r) r.bindings.now.places x
+
+abbrev pub IsRightHere : Referrer → Relocation → Type 0
+IsRightHere r x = IsRight (objects_here r) r.bindings.now.places x
+
 -- the relocations of kept RELA sections of an object, their fields, and that all of them are right
 abbrev pub relocations_of : Referrer → List KeptRela → List Relocation
 relocations_of r ks = map (relocation_here r) (relocations_of_relas (object_here r).bytes ks)

@@ -6,12 +6,12 @@ ghost use Rattle.check_load.specs.KeptRelocations.{relocations_of_rela};
 ghost use Rattle.check_load.specs.Views.{loaded_view};
 ghost use Rattle.check_link.specs.Views.{placed_view, placed_views};
 ghost use Rattle.check_relocs.specs.Bytes.{EndsBefore};
-ghost use Rattle.check_relocs.specs.Fields.{AreRight, IsRight};
+ghost use Rattle.check_relocs.specs.Fields.{AreRight};
 ghost use Rattle.check_relocs.specs.KnownSlots.{AreSymbolsKnown};
 ghost use Rattle.check_relocs.specs.LawfulFields.{IsRelocated};
-ghost use Rattle.check_relocs.specs.Referrers.{object_here, objects_here, relocation_here};
+ghost use Rattle.check_relocs.specs.Referrers.{entry_here, object_here, relocation_here};
 ghost use Rattle.checker.specs.Comparing.{AreHeld, AreOwn};
-ghost use Rattle.checker.specs.Rising.{AreInOrder, AreMatched, AreRightHere, Follows, HasFields, MatchesOn, fields_of, relocations_of};
+ghost use Rattle.checker.specs.Rising.{AreInOrder, AreMatched, AreRightHere, Follows, HasFields, IsRightHere, MatchesOn, field_here, fields_of, relocations_of};
 ghost use Rattle.elf_model.specs.Link.Relocation.{relocations_from};
 ghost use Rattle.elf_model.specs.Image.RightLink.{objects_of, where_of};
 
@@ -19,9 +19,11 @@ use crate::c10_bytes::{has_value_at, same_between};
 use check_link::{Placed, load_size};
 use check_load::{KeptRela, KeptRelocation, Loaded};
 use check_relocs::{
-    Field, KnownSymbols, Referrer, Relocated, is_some_kind, relocated, right_field, unknown_symbols,
+    Field, KnownSymbols, Referrer, Relocated, is_some_kind, plain_field, relocated, right_field,
+    unknown_symbols,
 };
 use check_stages::BoundLink;
+use elf_model::Rela;
 use loader_model::Memory;
 use std::alloc::{AllocError, Global};
 
@@ -39,28 +41,62 @@ fn follows(held: &[u8], bytes: &[u8], from: u64, field: &Field) -> bool
     has_value_at(held, field)
 }
 
-/// Compares the field of a relocation with memory, given up to which byte the piece is compared. Where the field ends; None where
-/// the relocation isn't right, the field begins before that byte, and where memory has other bytes.
+/// The field of a kept relocation, given what it relocates, for which an entry of a kept RELA section stands; None where it isn't
+/// right. The entry itself tells it where its kind and its symbol are plain, as they mostly are.
+#[inline(always)]
+fn field_at(
+    here: &Referrer<'_, '_, '_, '_>,
+    known: &mut KnownSymbols,
+    to: &Relocated,
+    rela: &KeptRela,
+    number: usize,
+    entry: Rela,
+) -> Option<Field>
+    requires known { AreSymbolsKnown here.now known.old }
+    requires to { IsRelocated here.now to.now }
+    requires section { to.now.section ≡ rela.now.target }
+    ensures kept { AreSymbolsKnown here.now known.new }
+    ensures right { IfSome result (λ f. IsRightHere here.now
+        (entry_here here.now rela.now.target entry)) }
+    ensures field { IfSome result (λ f. f ≡ field_here here.now
+        (entry_here here.now rela.now.target entry)) }
+{
+    if let Some(field) = plain_field(here, known, to, &entry) {
+        return Some(field);
+    }
+    let relocation = KeptRelocation {
+        section: rela.target,
+        table: rela.number,
+        number,
+        entry,
+    };
+    right_field(here, known, to, &relocation)
+}
+
+/// Compares the field of an entry of a kept RELA section with memory, given up to which byte the piece is compared. Where the field
+/// ends; None where the relocation isn't right, the field begins before that byte, and where memory has other bytes.
+#[inline(always)]
 fn end_of_field(
     here: &Referrer<'_, '_, '_, '_>,
     known: &mut KnownSymbols,
     to: &Relocated,
-    relocation: &KeptRelocation,
+    rela: &KeptRela,
+    number: usize,
+    entry: Rela,
     held: &[u8],
     bytes: &[u8],
     from: u64,
 ) -> Option<u64>
     requires known { AreSymbolsKnown here.now known.old }
     requires to { IsRelocated here.now to.now }
-    requires section { to.now.section ≡ relocation.now.section }
+    requires section { to.now.section ≡ rela.now.target }
     ensures kept { AreSymbolsKnown here.now known.new }
-    ensures right { IfSome result (λ end.
-        IsRight (objects_here here.now) here.now.bindings.now.places
-        (relocation_here here.now relocation.now)) }
+    ensures right { IfSome result (λ end. IsRightHere here.now
+        (entry_here here.now rela.now.target entry)) }
     ensures matched { IfSome result (MatchesOn here.now held.now bytes.now from
-        (relocation_here here.now relocation.now ∷ [])) }
+        (entry_here here.now rela.now.target entry ∷ [])) }
 {
-    let Some(field) = right_field(here, known, to, relocation) else {
+    let Some(field) = field_at(here, known, to, rela, number, entry) else {
         return None;
     };
     if !follows(held, bytes, from, &field) {
@@ -71,6 +107,7 @@ fn end_of_field(
 
 /// Compares the fields of the entries of a kept RELA section with memory, given up to which byte the piece is compared. Where the
 /// last of them ends; None where an entry isn't right, fields don't rise, and where memory has other bytes.
+#[inline(never)]
 fn end_of_entries(
     here: &Referrer<'_, '_, '_, '_>,
     known: &mut KnownSymbols,
@@ -94,13 +131,8 @@ fn end_of_entries(
         if !is_some_kind(&entry) {
             continue;
         }
-        let relocation = KeptRelocation {
-            section: rela.target,
-            table: rela.number,
-            number,
-            entry,
-        };
-        let Some(next) = end_of_field(here, known, &to, &relocation, held, bytes, end) else {
+        let Some(next) = end_of_field(here, known, &to, rela, number, entry, held, bytes, end)
+        else {
             return None;
         };
         end = next;
@@ -119,7 +151,8 @@ fn end_of_fields(
 ) -> Option<u64>
     requires { AreSymbolsKnown here.now known.old }
     ensures kept { AreSymbolsKnown here.now known.new }
-    ensures right { IfSome result (λ end. AreRightHere here.now (relocations_of here.now relas.now)) }
+    ensures right { IfSome result (λ end.
+        AreRightHere here.now (relocations_of here.now relas.now)) }
     ensures matched { IfSome result (AreMatched held.now bytes.now (fields_of here.now relas.now)) }
 {
     let mut end = 0;
@@ -182,7 +215,8 @@ fn have_fields(
     own: &[Placed<'_>],
 ) -> bool
     requires { AreSymbolsKnown here.now known.old }
-    ensures { result ≡ true → AreInOrder here.now memory.now (kept_relas (object_here here.now)) own.now }
+    ensures { result ≡ true → AreInOrder here.now memory.now
+        (kept_relas (object_here here.now)) own.now }
 {
     let mut relas = here.loaded.kept_relas();
     let mut low: u64 = 0;

@@ -1,46 +1,8 @@
-use Rattle.std.proofs.Common.{◌≡◌, ◌∙◌, Some, true, sym, ap, subst}
-use Rattle.elf_model.specs.Link.Relocation.{is_local}
-use Rattle.elf_model.specs.Link.Resolution.{SymbolOf, chosen}
-use Rattle.check_load.specs.Numbered.{name_at}
-use Rattle.check_link.specs.Views.{symbol_view}
-use Rattle.check_relocs.specs.Bindings.{IsTargetOf}
-use Rattle.check_relocs.specs.Referrers.{object_here, objects_here, symbol_here}
-use Rattle.check_relocs.proofs.Noted.{choice_named, with_name}
-use Rattle.check_relocs.proofs.Unnamed.{target_unnamed}
+use Rattle.std.proofs.Common.{◌∙◌, sym}
 use Rattle.check_relocs.proofs.targets.own_target_of.Goals as goal
 
-pub local_target-requires : goal.local_target-requires
-local_target-requires c =
-    ap (λ (s : SymbolOf). is_local s) c.unnamed_at.ensures ∙ (sym (c.is_local_at.ensures c.args.here.now.number) ∙ c.if-is_local_at.true)
+pub own_local_target-requires : goal.own_local_target-requires
+own_local_target-requires c = sym (c.is_local_at.ensures c.args.here.now.number) ∙ c.if-is_local_at.true
 
-pub returns-then-is_local_at : goal.returns-then-is_local_at
-returns-then-is_local_at c =
-    let h = c.args.here.now in
-    let s = symbol_here h c.args.j in
-    let t = c.local_target.result in
-    let local : is_local s ≡ true = sym (c.is_local_at.ensures h.number) ∙ c.if-is_local_at.true in
-    target_unnamed h.bindings.now s t local (subst (λ (u : SymbolOf). IsTargetOf h.bindings.now u t) c.unnamed_at.ensures c.local_target.ensures)
-
-pub target_chosen-requires-clause-chosen : goal.target_chosen-requires-clause-chosen
-target_chosen-requires-clause-chosen c =
-    let h = c.args.here.now in
-    let L = objects_here h in
-    let name = name_at (object_here h).bytes c.args.j in
-    let t = symbol_view c.in-Some.chosen in
-    let told : chosen L name ≡ Some t = (rw c.in-Some.is at c.noted_choice.ensures) (object_here h) h.own in
-    ap (λ (s : SymbolOf). chosen L s.name) c.named_at.ensures ∙ (ap (chosen L) (choice_named L name t told) ∙ told)
-
-pub target_chosen-requires-clause-visible : goal.target_chosen-requires-clause-visible
-target_chosen-requires-clause-visible c =
-    ap (λ (s : SymbolOf). is_local s) c.named_at.ensures ∙ (sym (c.is_local_at.ensures c.args.here.now.number) ∙ c.if-is_local_at.false)
-
-pub returns-in-Some : goal.returns-in-Some
-returns-in-Some c =
-    let h = c.args.here.now in
-    let L = objects_here h in
-    let o = object_here h in
-    let name = name_at o.bytes c.args.j in
-    let t = symbol_view c.in-Some.chosen in
-    let told : chosen L name ≡ Some t = (rw c.in-Some.is at c.noted_choice.ensures) o h.own in
-    subst (λ (s : SymbolOf). IsTargetOf h.bindings.now s c.target_chosen.result)
-    (c.named_at.ensures ∙ with_name h.number o c.args.j t.name (choice_named L name t told)) c.target_chosen.ensures
+pub own_visible_target-requires : goal.own_visible_target-requires
+own_visible_target-requires c = sym (c.is_local_at.ensures c.args.here.now.number) ∙ c.if-is_local_at.false
