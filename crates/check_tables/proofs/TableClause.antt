@@ -18,7 +18,7 @@ use Rattle.elf_model.specs.declared.link_map.SymtabLine.{SymtabLine}
 use Rattle.elf_model.specs.declared.records.FileHeader.{FileHeader}
 use Rattle.check_relocs.specs.Bindings.{Bound, bound_of}
 use Rattle.check_tables.specs.Listed.{IsLine}
-use Rattle.check_tables.specs.Tabled.{AreAt, AreTables, end_bytes}
+use Rattle.check_tables.specs.Tabled.{AreAt, AreTables, AreWanted, end_bytes}
 use Rattle.check_tables.specs.declared.c14_tables.places.Places.{Places}
 use Rattle.check_tables.proofs.TableEntries.{each_line}
 
@@ -40,104 +40,103 @@ end_is e ms p at = λ i.
       headers = at.headers i;
     })
 
-module _ (s : Subject) (line : SymtabLine) where
+module _ (s : Subject) where
   abbrev pub end_at : ℕ
   end_at = file_end (loads s.image)
 
-  abbrev pub Told : List ℕ → Type 0
-  Told others = AreTables (where_of s) (tabled_of s) (symtab_at end_at - end_at) (drop end_at s.image) line.count others
+  -- bytes begin with the table, and others follow
+  abbrev Told : List ℕ → ℕ → List ℕ → Type 0
+  Told bytes count others = AreTables (where_of s) (tabled_of s) (symtab_at end_at - end_at) bytes count others
 
-  pub tables_told : HoldsTables s line → Told (end_of_tables end_at (tabled_of s))
-  tables_told h = record { bytes_are = h.bytes; count_is = h.count; names_fit = h.names_fit }
+  abbrev last_bytes : List ℕ
+  last_bytes = end_of_tables end_at (tabled_of s)
 
-  pub tables_hold :
-      line.offset ≡ symtab_at end_at → (file_header s.image).e_shoff ≡ headers_at end_at (tabled_of s) → (file_header s.image).e_shnum ≡ 4 →
-      (file_header s.image).e_shstrndx ≡ 3 → Told (end_of_tables end_at (tabled_of s)) → HoldsTables s line
-  tables_hold offset headers count names told = record {
-    offset = offset;
-    count = told.count_is;
-    names_fit = told.names_fit;
-    bytes = told.bytes_are;
-    headers_offset = headers;
-    headers_count = count;
-    names_section = names;
-  }
+  told_wanted : (bytes : List ℕ) (count : ℕ) → AreWanted s bytes count → Told bytes count last_bytes
+  told_wanted bytes count h = record { bytes_are = h.bytes_are; count_is = h.count_is; names_fit = h.names_fit }
+
+  wanted_told : (bytes : List ℕ) (count : ℕ) → Told bytes count last_bytes → AreWanted s bytes count
+  wanted_told bytes count h = record { bytes_are = h.bytes_are; count_is = h.count_is; names_fit = h.names_fit }
 
 same_tables :
-    (w v : Where) (ms ns : List Meaning) (k l : ℕ) (xs ys : List ℕ) (count : ℕ) (others : List ℕ) → w ≡ v → ms ≡ ns → k ≡ l → xs ≡ ys →
-    AreTables w ms k xs count others → AreTables v ns l ys count others
-same_tables w v ms ns k l xs ys count others ew em ek ex a = record {
-  bytes_are = sym ex ∙ (a.bytes_are ∙ (λ i. replicate (ek i) 0 ++ (symbol_section (ew i) (em i) ++ (name_section (em i) ++ others))));
+    (w v : Where) (ms ns : List Meaning) (k l : ℕ) (bytes : List ℕ) (count : ℕ) (others : List ℕ) → w ≡ v → ms ≡ ns → k ≡ l →
+    AreTables w ms k bytes count others → AreTables v ns l bytes count others
+same_tables w v ms ns k l bytes count others ew em ek a = record {
+  bytes_are = a.bytes_are ∙ (λ i. replicate (ek i) 0 ++ (symbol_section (ew i) (em i) ++ (name_section (em i) ++ others)));
   count_is = a.count_is ∙ ap entry_count em;
   names_fit = subst (λ (ds : List Meaning). length (name_section ds) < 2 ^ 32) em a.names_fit;
 }
 
--- the clause on a map with the line, from what is left of the bytes once the tables are stripped
+-- what the table asks for, from what is left of the bytes once the tables are stripped
 module _
-    (s : Subject) (line : SymtabLine) (b : Bound) (rows : List SymbolRow) (image bytes : List ℕ) (end symtab : ℕ) (header : FileHeader)
-    (eb : b ≡ bound_of s) (er : rows ≡ s.map.symbols) (ei : image ≡ s.image) (ee : end ≡ file_end (loads s.image))
-    (es : symtab ≡ round_up 8 end) (back : bytes ≡ drop end image) (eh : header ≡ file_header s.image)
+    (s : Subject) (b : Bound) (rows : List SymbolRow) (bytes : List ℕ) (count end symtab : ℕ) (eb : b ≡ bound_of s) (er : rows ≡ s.map.symbols)
+    (ee : end ≡ file_end (loads s.image)) (es : symtab ≡ round_up 8 end)
   where
     abbrev Found : List ℕ → Type 0
-    Found others = AreTables b.places (tabled b.objects rows) (symtab - end) bytes line.count others
+    Found others = AreTables b.places (tabled b.objects rows) (symtab - end) bytes count others
 
     definitions_are : tabled b.objects rows ≡ tabled_of s
     definitions_are = λ i. tabled ((eb i).objects) (er i)
 
-    symtab_is : symtab ≡ symtab_at (end_at s line)
-    symtab_is = es ∙ ap (round_up 8) ee
-
-    padding_is : symtab - end ≡ symtab_at (end_at s line) - end_at s line
-    padding_is = λ i. symtab_is i - ee i
-
-    bytes_are : bytes ≡ drop (end_at s line) s.image
-    bytes_are = back ∙ (λ i. drop (ee i) (ei i))
+    padding_is : symtab - end ≡ symtab_at (end_at s) - end_at s
+    padding_is = λ i. (es ∙ ap (round_up 8) ee) i - ee i
 
     places_are : b.places ≡ where_of s
     places_are = ap (λ (x : Bound). x.places) eb
 
-    told : (others : List ℕ) → Found others → Told s line others
-    told others = same_tables b.places (where_of s) _ _ _ _ bytes _ line.count others places_are definitions_are padding_is bytes_are
+    told : (others : List ℕ) → Found others → Told s bytes count others
+    told others = same_tables b.places (where_of s) _ _ _ _ bytes count others places_are definitions_are padding_is
 
-    found : (others : List ℕ) → Told s line others → Found others
-    found others =
-        same_tables (where_of s) b.places _ _ _ _ _ bytes line.count others (sym places_are) (sym definitions_are) (sym padding_is) (sym bytes_are)
+    found : (others : List ℕ) → Told s bytes count others → Found others
+    found others = same_tables (where_of s) b.places _ _ _ _ bytes count others (sym places_are) (sym definitions_are) (sym padding_is)
 
-    abbrev last_bytes : List ℕ
-    last_bytes = end_of_tables (end_at s line) (tabled_of s)
-
-    pub no_tables : ((others : List ℕ) → Found others → ⊥) → HoldsTables s line → ⊥
-    no_tables none h = none last_bytes (found last_bytes (tables_told s line h))
-
-    pub elsewhere : (line.offset ≡ symtab → ⊥) → HoldsTables s line → ⊥
-    elsewhere other h = other (h.offset ∙ sym symtab_is)
+    pub no_tables : ((others : List ℕ) → Found others → ⊥) → AreWanted s bytes count → ⊥
+    no_tables none h = none (last_bytes s) (found (last_bytes s) (told_wanted s bytes count h))
 
     module _
         (names : List ℕ) (at : ℕ) (p : Places) (left : (others : List ℕ) → Left (Found others) (names ≡ others))
         (offset : at ≡ length (name_section (tabled b.objects rows)))
-        (places : (ms : List Meaning) → line.count ≡ entry_count ms → at ≡ length (name_section ms) → AreAt end ms p)
+        (places : (ms : List Meaning) → count ≡ entry_count ms → at ≡ length (name_section ms) → AreAt end ms p)
       where
-        places_at : AreAt (end_at s line) (tabled_of s) p
+        pub places_at : AreAt end (tabled_of s) p
         places_at =
-            subst (λ (e : ℕ). AreAt e (tabled_of s) p) ee
-            (places (tabled_of s) (told names ((left names).1 refl)).count_is
-            (offset ∙ ap (λ (ms : List Meaning). length (name_section ms)) definitions_are))
+            places (tabled_of s) (told names ((left names).1 refl)).count_is
+            (offset ∙ ap (λ (ms : List Meaning). length (name_section ms)) definitions_are)
 
-        last_are : end_bytes p ≡ last_bytes
-        last_are = end_is (end_at s line) (tabled_of s) p places_at
+        last_are : end_bytes p ≡ last_bytes s
+        last_are = end_is (end_at s) (tabled_of s) p (subst (λ (e : ℕ). AreAt e (tabled_of s) p) ee places_at)
 
-        pub headers_elsewhere : (header.e_shoff ≡ p.headers → ⊥) → HoldsTables s line → ⊥
-        headers_elsewhere other h = other (ap (λ (x : FileHeader). x.e_shoff) eh ∙ (h.headers_offset ∙ sym places_at.headers))
+        pub are_wanted : names ≡ end_bytes p → AreWanted s bytes count
+        are_wanted last = wanted_told s bytes count (told (last_bytes s) ((left (last_bytes s)).1 (last ∙ last_are)))
 
-        pub tables_there :
-            (t : Bool) → line.offset ≡ symtab → header.e_shoff ≡ p.headers → header.e_shnum ≡ 4 → header.e_shstrndx ≡ 3 →
-            Left (IsTrue t) (names ≡ end_bytes p) → Left (IsTrue t) (HoldsTables s line)
-        tables_there t at_symtab at_headers count strings last = (
-          λ yes.
-              tables_hold s line (at_symtab ∙ symtab_is) (sym (ap (λ (x : FileHeader). x.e_shoff) eh) ∙ (at_headers ∙ places_at.headers))
-              (sym (ap (λ (x : FileHeader). x.e_shnum) eh) ∙ count) (sym (ap (λ (x : FileHeader). x.e_shstrndx) eh) ∙ strings)
-              (told last_bytes ((left last_bytes).1 (last.0 yes ∙ last_are))),
-          λ h. last.1 ((left last_bytes).0 (found last_bytes (tables_told s line h)) ∙ sym last_are),
+        pub others_wanted : (names ≡ end_bytes p → ⊥) → AreWanted s bytes count → ⊥
+        others_wanted other h = other ((left (last_bytes s)).0 (found (last_bytes s) (told_wanted s bytes count h)) ∙ sym last_are)
+
+-- the clause on a map with the line, from what follows the last file part and the fields of the file header
+module _
+    (s : Subject) (line : SymtabLine) (image bytes : List ℕ) (end : ℕ) (header : FileHeader) (ei : image ≡ s.image)
+    (ee : end ≡ file_end (loads s.image)) (back : bytes ≡ drop end image) (eh : header ≡ file_header s.image)
+  where
+    bytes_are : bytes ≡ drop (end_at s) s.image
+    bytes_are = back ∙ (λ i. drop (ee i) (ei i))
+
+    pub wanted_held : HoldsTables s line → AreWanted s bytes line.count
+    wanted_held h = record { bytes_are = bytes_are ∙ h.bytes; count_is = h.count; names_fit = h.names_fit }
+
+    pub tables_there :
+        (t : Bool) (p : Places) → line.offset ≡ round_up 8 end → header.e_shnum ≡ 4 → header.e_shstrndx ≡ 3 → AreWanted s bytes line.count →
+        AreAt end (tabled_of s) p → Left (IsTrue t) (header.e_shoff ≡ p.headers) → Left (IsTrue t) (HoldsTables s line)
+    tables_there t p offset count strings wanted at same =
+        let there : p.headers ≡ headers_at (end_at s) (tabled_of s) = at.headers ∙ ap (λ (e : ℕ). headers_at e (tabled_of s)) ee in (
+          λ yes. record {
+            offset = offset ∙ ap (round_up 8) ee;
+            count = wanted.count_is;
+            names_fit = wanted.names_fit;
+            bytes = sym bytes_are ∙ wanted.bytes_are;
+            headers_offset = sym (ap (λ (x : FileHeader). x.e_shoff) eh) ∙ (same.0 yes ∙ there);
+            headers_count = sym (ap (λ (x : FileHeader). x.e_shnum) eh) ∙ count;
+            names_section = sym (ap (λ (x : FileHeader). x.e_shstrndx) eh) ∙ strings;
+          },
+          λ h. same.1 (ap (λ (x : FileHeader). x.e_shoff) eh ∙ (h.headers_offset ∙ sym there)),
         )
 
 -- the clause on a map without the line

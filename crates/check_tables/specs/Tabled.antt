@@ -5,10 +5,12 @@ use Rattle.std.specs.List.{flat_map}
 use Rattle.elf_model.specs.Link.Loading.{LoadedObject}
 use Rattle.elf_model.specs.Image.MapRecord.{SymbolRow}
 use Rattle.elf_model.specs.Link.Meaning.{Meaning, meaning_name, meaning_size}
+use Rattle.elf_model.specs.Image.MemoryImage.{file_end, loads}
+use Rattle.elf_model.specs.Image.RightLink.{Subject, tabled_of, where_of}
 use Rattle.elf_model.specs.Link.Placement.{Where}
 use Rattle.elf_model.specs.Inputs.Records.{section_header_bytes, symbol_bytes}
 use Rattle.elf_model.specs.Inputs.ObjectFile.{null_section}
-use Rattle.elf_model.specs.Image.SymbolTable.{ended, entries_from, entry_binding, entry_count, entry_of, entry_type, has_entry, headers_at, name_section, section_names, shstrtab_at, shstrtab_end, strings_header, strtab_at, symbol_section, symtab_at, tabled}
+use Rattle.elf_model.specs.Image.SymbolTable.{ended, entries_from, entry_binding, entry_count, entry_of, entry_type, has_entry, headers_at, name_section, section_names, shstrtab_at, shstrtab_end, strings_header, strtab_at, symbol_section, symtab_at, tabled, tables}
 use Rattle.elf_model.specs.declared.constants.TheConstants.{SHN_ABS, SHT_SYMTAB}
 use Rattle.elf_model.specs.declared.records.SectionHeader.{SectionHeader}
 use Rattle.elf_model.specs.declared.records.Symbol as entry
@@ -49,6 +51,13 @@ pub record AreTables (w : Where) (ms : List Meaning) (padding : ℕ) (bytes : Li
   pub bytes_are : bytes ≡ replicate padding 0 ++ (symbol_section w ms ++ (name_section ms ++ others))
   pub count_is : count ≡ entry_count ms
   pub names_fit : length (name_section ms) < 2 ^ 32
+
+-- bytes are those that a link's table and its sections ask for after the last file part, and so is a number of entries; the
+-- offsets of names fit their fields
+pub record AreWanted (s : Subject) (bytes : List ℕ) (count : ℕ) : Type 0 where
+  pub bytes_are : bytes ≡ tables (where_of s) (file_end (loads s.image)) (tabled_of s)
+  pub count_is : count ≡ entry_count (tabled_of s)
+  pub names_fit : length (name_section (tabled_of s)) < 2 ^ 32
 
 -- what is left to compare are the entries of definitions, whose names stand from an offset of .strtab on; and these names
 -- with what follows them

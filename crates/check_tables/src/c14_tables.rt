@@ -1,19 +1,19 @@
 //! C14: whether the map tells of a symbol table where it has to, and the image has that table and its sections after
 //! its last file part, or no sections. All is compared in place, and no name is looked up whose line names its chosen
 //! definition.
-ghost use Rattle.std.specs.Prelude.{◌≡◌, ◌↔◌, ◌*◌, ◌<◌, ◌≤◌, ◌^◌, ℕ, All, List, IfSome, IsSomeAnd, IsTrue, is_some, length, map, not};
+ghost use Rattle.std.specs.Prelude.{◌≡◌, ◌↔◌, ◌*◌, ◌<◌, ◌≤◌, ◌^◌, ℕ, All, List, IfSome, IsSome, IsSomeAnd, IsTrue, is_some, length, map, not};
 ghost use Rattle.linkmap.specs.Borrowed.{symbol_row};
 ghost use Rattle.elf_model.specs.Image.MemoryImage.{HasNoSections, loads, file_end};
 ghost use Rattle.elf_model.specs.Inputs.Records.{file_header};
-ghost use Rattle.elf_model.specs.Image.RightLink.{Holds, HoldsBefore, HoldsTables, objects_of};
+ghost use Rattle.elf_model.specs.Image.RightLink.{Holds, HoldsBefore, HoldsTables, objects_of, tabled_of};
 ghost use Rattle.elf_model.specs.Image.SymbolTable.{name_section, tabled};
 ghost use Rattle.elf_model.specs.declared.verdict.Clause.TheVariants as clause;
 ghost use Rattle.check_tables.specs.Listed.{IsLine};
-ghost use Rattle.check_tables.specs.Tabled.{AreTables};
+ghost use Rattle.check_tables.specs.Tabled.{AreAt, AreTables, AreWanted};
 
 use crate::c13_symbols::own_choices::OwnChoices;
 use crate::c14_tables::lines::{Tables, strip_lines, tables_of};
-use crate::c14_tables::places::{are_end, eight_up, places_of};
+use crate::c14_tables::places::{Places, are_end, eight_up, places_of};
 use crate::c14_tables::strip::strip_zeros;
 use check_relocs::Bindings;
 use check_stages::{BoundLink, file_end};
@@ -83,6 +83,33 @@ fn strip_tables<'a, 'b>(
     strip_lines(bindings, choices, lines, tables)
 }
 
+/// Where the parts are of the table of the definitions of the map's symbol lines, where bytes are those that this table
+/// and its sections ask for after the last file part, which ends at `end`, and its number of entries is this.
+pub fn places_if_tables<'a>(
+    bound: &BoundLink<'_, 'a>,
+    choices: &OwnChoices<'_, 'a>,
+    end: u64,
+    bytes: &[u8],
+    count: u64,
+) -> Option<Places>
+    requires clauses { HoldsBefore clause.C14 bound.now }
+    requires choices { choices.now ≡ objects_of bound.now }
+    requires end { end ≡ file_end (loads bound.now.image) }
+    requires low { end ≤ 2 ^ 46 }
+    ensures tables { IsSome result ↔ AreWanted bound.now bytes.now count }
+    ensures places { IfSome result (AreAt end (tabled_of bound.now)) }
+{
+    let lines = &bound.link().map.symbols;
+    let padding = (eight_up(end) - end) as usize;
+    let left = strip_tables(bound.bindings(), choices, lines, bytes, padding, count)?;
+    let places = places_of(end, count, left.name_at);
+    if are_end(left.names, &places) {
+        Some(places)
+    } else {
+        None
+    }
+}
+
 /// Whether the header and the bytes after the last file part are those of the table that the line tells of.
 fn holds_tables<'a>(
     bound: &BoundLink<'_, 'a>,
@@ -99,19 +126,12 @@ fn holds_tables<'a>(
         return false;
     }
     let end = file_end(memory);
-    let symtab = eight_up(end);
-    if line.offset != symtab {
+    if line.offset != eight_up(end) {
         return false;
     }
     let (_parts, bytes) = memory.image().split_at(end as usize);
-    let lines = &bound.link().map.symbols;
-    let padding = (symtab - end) as usize;
-    let bindings = bound.bindings();
-    match strip_tables(bindings, choices, lines, bytes, padding, line.count) {
-        Some(left) => {
-            let places = places_of(end, line.count, left.name_at);
-            header.e_shoff == places.headers && are_end(left.names, &places)
-        }
+    match places_if_tables(bound, choices, end, bytes, line.count) {
+        Some(places) => header.e_shoff == places.headers,
         None => false,
     }
 }

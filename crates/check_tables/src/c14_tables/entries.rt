@@ -138,22 +138,8 @@ fn entry_with(
     }
 }
 
-/// The entry of the definition of a line, where it has one. The line is that of what its name means.
-pub fn entry_of_line(
-    bindings: &Bindings<'_, '_, '_>,
-    line: &BorrowedSymbol<'_>,
-    name_at: u32,
-) -> Option<Symbol>
-    requires { IsLine bindings.now.objects bindings.now.places (symbol_row line.now) }
-    ensures none { IfNone result (tabled bindings.now.objects (symbol_row line.now ∷ []) ≡ []) }
-    ensures some { IfSome result (IsTabled bindings.now.objects bindings.now.places
-        (symbol_row line.now) name_at) }
-{
-    let meaning = bindings.object_meaning(&line.name);
-    entry_with(bindings, &meaning, line, name_at)
-}
-
-/// The same, with the chosen definitions that lines name: of a line that names its own no name is looked up.
+/// The entry of the definition of a line, where it has one, given the chosen definitions that lines name: of a line that names
+/// its own no name is looked up. The line is that of what its name means.
 pub fn entry_by<'a>(
     bindings: &Bindings<'_, '_, 'a>,
     choices: &OwnChoices<'_, 'a>,

@@ -9,7 +9,7 @@ use crate::c14_tables::strip::{strip, strip_headers, strip_zeros};
 use elf_model::{SHT_STRTAB, SHT_SYMTAB, SYM_SIZE, SectionHeader};
 
 /// The names of the sections, each with its NUL.
-const SECTION_NAMES: &[u8; 27] = b"\0.symtab\0.strtab\0.shstrtab\0";
+pub const SECTION_NAMES: &[u8; 27] = b"\0.symtab\0.strtab\0.shstrtab\0";
 
 /// Where the parts of a symbol table are in the file, and the sizes of the first two, in bytes.
 #[derive(Clone, Copy)]
