@@ -1,41 +1,44 @@
 -- What a place says denies its clause.
 use Rattle.std.proofs.Common.{Bool, List, None, Option, Some, [], ap, arith, false, get_or, inl, inr, map, not, option_map, refl, subst, sym, true, ℕ, ⊎_elim, ◌%◌, ◌++◌, ◌+◌, ◌<◌, ◌∙◌, ◌∷◌, ◌≡◌, ◌≤◌, ◌⊎◌, zero, suc, ◌*◌}
-use Rattle.std.specs.Prelude.{All, AllPairs, IfSome, IsSome, filter, is_some}
+use Rattle.std.specs.Prelude.{All, AllPairs, Contains, IfSome, IsSome, cond, filter, is_some}
 use Rattle.std.specs.List.{slice_get}
 use Rattle.std.proofs.lemmas.Bool.{false≢true}
 use Rattle.std.proofs.lemmas.Option.{get_or_from_slice_get, none-some, same_Some, slice_get-map, slice_get_within}
-use Rattle.std.proofs.lemmas.List.Elements.{All-head, All-contains}
+use Rattle.std.proofs.lemmas.List.Elements.{All-contains}
 use Rattle.elf_model.specs.Image.MapText.{IsMap}
-use Rattle.elf_model.specs.Image.MemoryImage.{loads, thread_blocks}
+use Rattle.elf_model.specs.Image.MemoryImage.{HasNoSections, loads, memory_of, thread_blocks}
+use Rattle.elf_model.specs.Image.SymbolTable.{headers_at}
+use Rattle.elf_model.specs.Inputs.Records.{file_header}
 use Rattle.elf_model.specs.Link.Pieces.{is_thread_zero, kept_sections}
 use Rattle.elf_model.specs.Link.Placement.{AreApart, HasRights, IsNear, IsPlaced, IsWithin, LiesInSegment, Placed, got_things, headers_thing, is_thread_place, thing_of, thread_ranges}
-use Rattle.elf_model.specs.Image.RightLink.{AreTablesRight, EndsRight, Holds, HoldsInitial, HoldsPiece, HoldsTables, IsClearOf, Subject, facts_of_piece, facts_of_row, objects_of, placed_of, symbol_row_of, things_of, thread_data_end, where_of, HoldsGot, StandFrom, other_things}
-use Rattle.linkmap.specs.Borrowed.{symbol_row}
+use Rattle.elf_model.specs.Image.RightLink.{AreTablesRight, EndsRight, Holds, HoldsInitial, HoldsPiece, HoldsTables, IsClearOf, Subject, facts_of_piece, facts_of_row, object_rows, objects_of, placed_of, things_of, thread_data_end, where_of, HoldsGot, IsThreadBlockRight, StandFrom, byte_at, fill_of, other_things, tabled_of}
 use Rattle.elf_model.specs.declared.link_map.GotLine.{GotLine}
 use Rattle.elf_model.specs.declared.link_map.SymtabLine.{SymtabLine}
+use Rattle.elf_model.specs.declared.records.FileHeader.{FileHeader}
 use Rattle.elf_model.specs.declared.records.ProgramHeader.{ProgramHeader}
 use Rattle.elf_model.specs.declared.thing.Thing.{Thing}
 use Rattle.elf_model.proofs.Listed.{All-parts, All-unmap}
 use Rattle.elf_model.specs.Link.Placement as placement
 use Rattle.elf_model.specs.Link.Relocation.{IsLawfulRelocation, Relocation, Kind, relocations}
 use Rattle.elf_model.specs.Link.RelocationValues.{Fits}
-use Rattle.check_link.specs.Views.{meaning_view, placed_view}
+use Rattle.check_link.specs.Views.{placed_view}
+use Rattle.check_link.specs.declared.things.Placed as code
+use Rattle.check_places.specs.ObjectLines.{row_of}
 use Rattle.check_link.proofs.Padded.{below_or_not}
 use Rattle.check_link.specs.Slots.{request_view}
-use Rattle.check_tables.specs.Listed.{IsLine}
-use Rattle.check_tables.proofs.TableEntries.{each_line}
 use Rattle.checker.proofs.Filtered.{All-unfilter}
-use Rattle.explain_check.specs.PlacementPlaces.{AreFar, IsNamed, IsOutside, IsPart, IsShared, IsUnaligned, IsUnheld, got_thing, is_thread_name, list_of, ordered_sections, IsBlock}
-use Rattle.explain_check.specs.TablePlaces.{FailsInTable}
-use Rattle.explain_check.specs.Places.{FailsIn, clause_of}
+use Rattle.explain_check.specs.BytePlaces.{IsWanted, address_of}
+use Rattle.explain_check.specs.NumberPlaces.{number_there, number_wanted, parts_end}
+use Rattle.explain_check.specs.PlacementPlaces.{AreFar, IsInBlock, IsInner, IsInnerPiece, IsOutside, IsPart, IsShared, IsUnaligned, IsUnheld, ordered_sections, parts_of}
+use Rattle.explain_check.specs.Places.{FailsIn, clause_of, clause_of_byte, clause_of_number}
 use Rattle.explain_check.specs.declared.place.CheckPlace.{CheckPlace}
 use Rattle.explain_check.specs.declared.place.CheckPlace.TheVariants as place
-use Rattle.explain_check.specs.declared.place.Neighbours.{Neighbours}
+use Rattle.explain_check.specs.declared.place.LineKey.TheVariants as key
 use Rattle.explain_check.specs.declared.place.Part.{Part}
-use Rattle.explain_check.specs.declared.place.PartName.{PartName}
-use Rattle.explain_check.specs.declared.place.PartName.TheVariants as part_name
-use Rattle.explain_check.specs.declared.place.TablePlace.{TablePlace}
-use Rattle.explain_check.specs.declared.place.TablePlace.TheVariants as table
+use Rattle.explain_check.specs.declared.place.ByteOf.{ByteOf}
+use Rattle.explain_check.specs.declared.place.ByteOf.TheVariants as of
+use Rattle.explain_check.specs.declared.place.NumberName.{NumberName}
+use Rattle.explain_check.specs.declared.place.NumberName.TheVariants as number
 use Rattle.elf_model.specs.Link.Loading.{LoadedObject}
 use Rattle.elf_model.specs.Image.MapRecord.{SlotRow}
 use Rattle.input_names.proofs.ListedPlaces.{listed}
@@ -77,52 +80,42 @@ module _ (s : Subject) where
   held : (got : GotLine) → s.map.got ≡ Some got → IfSome s.map.got (HoldsGot (objects_of s) (where_of s) s.image) → HoldsGot (objects_of s) (where_of s) s.image got
   held got is h = subst (λ (o : Option GotLine). IfSome o (HoldsGot (objects_of s) (where_of s) s.image)) is h
 
-  -- what is asked of the things that aren't thread-local, from the beginning of the block on
-  clear_at : (start end : ℕ) → IsBlock s start end → All (λ h. All (IsClearOf h.p_vaddr (thread_data_end s)) (other_things s)) (thread_blocks s.image) → All (IsClearOf start end) (other_things s)
-  clear_at start end b all =
-      let here = at_number (λ (h : ProgramHeader). All (IsClearOf h.p_vaddr (thread_data_end s)) (other_things s)) (thread_blocks s.image) 0 b.header all b.there in
-      subst (λ (n : ℕ). All (IsClearOf start n) (other_things s)) (sym b.is_end)
-      (subst (λ (n : ℕ). All (IsClearOf n (thread_data_end s)) (other_things s)) (sym b.is_start) here)
-
 pairs_at :
     {X : Type 0} (R : X → X → Type 0) (xs : List X) (i j : ℕ) (x y : X) → AllPairs R xs → i < j → slice_get xs i ≡ Some x → slice_get xs j ≡ Some y → R x y
 pairs_at R xs i j x y all low a b =
     subst (R x) (get_or_from_slice_get xs j y x b)
     (subst (λ z. R z (get_or xs j x)) (get_or_from_slice_get xs i x x a) (all i j x low (slice_get_within xs j y b)))
 
+-- the object line of the object that has a number
+rows_at : (n k m : ℕ) (os : List LoadedObject) → m ≡ n + k → slice_get (object_rows n os) k ≡ option_map (row_of m) (slice_get os k)
+rows_at n k m [] e = refl
+rows_at n zero m (o ∷ os) e = let same : n ≡ m = omega (arith, e) in ap (λ (i : ℕ). Some (row_of i o)) same
+rows_at n (suc k) m (o ∷ os) e = rows_at (n + 1) k m os (omega (arith, e))
+
 module _ (s : Subject) where
-  of_things : (n : PartName) → is_thread_name n ≡ false → list_of s n ≡ things_of s
-  of_things part_name.Headers e = refl
-  of_things part_name.Got e = refl
-  of_things (part_name.Piece q) e = refl
-  of_things (part_name.Thread q) e = absurd (false≢true (sym e))
-
-  of_threads : (n : PartName) → is_thread_name n ≡ true → list_of s n ≡ thread_ranges (placed_of s)
-  of_threads part_name.Headers e = absurd (false≢true e)
-  of_threads part_name.Got e = absurd (false≢true e)
-  of_threads (part_name.Piece q) e = absurd (false≢true e)
-  of_threads (part_name.Thread q) e = refl
-
-  thing_at : (p : Part) → IsPart s p → is_thread_name p.name ≡ false → slice_get (things_of s) p.number ≡ Some p.thing
-  thing_at p part thing = ap (λ ts. slice_get ts p.number) (sym (of_things p.name thing)) ∙ part.there
-
-  thread_at : (p : Part) → IsPart s p → is_thread_name p.name ≡ true → slice_get (thread_ranges (placed_of s)) p.number ≡ Some p.thing
-  thread_at p part thread = ap (λ ts. slice_get ts p.number) (sym (of_threads p.name thread)) ∙ part.there
+  -- a part that is one of the things
+  thing_at : (p : Part) → IsPart s p → p.thread ≡ false → slice_get (things_of s) p.number ≡ Some p.thing
+  thing_at p part thing = subst (λ (b : Bool). slice_get (parts_of s b) p.number ≡ Some p.thing) thing part.there
 
   -- C5
   abbrev Placing : Type 0
   Placing = IsPlaced s.plan.base (things_of s) (thread_ranges (placed_of s)) (ordered_sections s)
 
+  within : (thread : Bool) → Placing → All (IsWithin s.plan.base) (parts_of s thread)
+  within true right = right.threads_within
+  within false right = right.within
+
+  apart : (thread : Bool) → Placing → AllPairs AreApart (parts_of s thread)
+  apart true right = right.threads_apart
+  apart false right = right.apart
+
   unaligned_denied : (p : Part) → IsUnaligned s p → Placing → ⊥
   unaligned_denied p h right =
       h.wrong (at_number (λ (t : Thing). t.at % t.align ≡ 0) (things_of s) p.number p.thing right.aligned (thing_at p h.part h.thing))
 
-  outside_denied : (p : Part) (base : ℕ) → IsOutside s p base → Placing → ⊥
-  outside_denied p base h right = h.wrong (by (is_thread_name p.name) refl)
-    where
-      by : (b : Bool) → is_thread_name p.name ≡ b → IsWithin s.plan.base p.thing
-      by false e = at_number (IsWithin s.plan.base) (things_of s) p.number p.thing right.within (thing_at p h.part e)
-      by true e = at_number (IsWithin s.plan.base) (thread_ranges (placed_of s)) p.number p.thing right.threads_within (thread_at p h.part e)
+  outside_denied : (p : Part) → IsOutside s p → Placing → ⊥
+  outside_denied p h right =
+      h.wrong (at_number (IsWithin s.plan.base) (parts_of s p.thread) p.number p.thing (within p.thread right) h.part.there)
 
   apart_at :
       (ts : List Thing) (i j : ℕ) (t u : Thing) → AllPairs AreApart ts → (i ≡ j → ⊥) → slice_get ts i ≡ Some t → slice_get ts j ≡ Some u → AreApart t u
@@ -133,23 +126,18 @@ module _ (s : Subject) where
       by (inr high) = λ x p q. pairs_at AreApart ts j i u t all (omega (arith, high, two)) b a x q p
 
   shared_denied : (p q : Part) → IsShared s p q → Placing → ⊥
-  shared_denied p q h right = h.wrong (by (is_thread_name p.name) refl)
-    where
-      by : (b : Bool) → is_thread_name p.name ≡ b → AreApart p.thing q.thing
-      by false e =
-          apart_at (things_of s) p.number q.number p.thing q.thing right.apart h.two (thing_at p h.first e) (thing_at q h.second (sym h.same_list ∙ e))
-      by true e =
-          apart_at (thread_ranges (placed_of s)) p.number q.number p.thing q.thing right.threads_apart h.two (thread_at p h.first e)
-          (thread_at q h.second (sym h.same_list ∙ e))
-
-  far_denied : (n : Neighbours) → AreFar s n → Placing → ⊥
-  far_denied n h right =
-      let d = placed_view n.first in
+  shared_denied p q h right =
       h.wrong
-      (subst (IsNear (placed_view n.first)) (get_or_from_slice_get (ordered_sections s) n.second_number (placed_view n.second) d h.second)
-      (subst (λ (q : Placed). IsNear q (get_or (ordered_sections s) n.second_number d))
-      (get_or_from_slice_get (ordered_sections s) n.first_number (placed_view n.first) d h.first)
-      (right.near n.first_number n.second_number d (h.next d))))
+      (apart_at (parts_of s p.thread) p.number q.number p.thing q.thing (apart p.thread right) h.two h.first.there
+      (subst (λ (b : Bool). slice_get (parts_of s b) q.number ≡ Some q.thing) (sym h.same_list) h.second.there))
+
+  far_denied : (p q : code.Placed) → AreFar s p q → Placing → ⊥
+  far_denied p q h right =
+      let d = placed_view p in
+      h.wrong
+      (subst (IsNear d) (get_or_from_slice_get (ordered_sections s) h.j (placed_view q) d h.second)
+      (subst (λ (x : Placed). IsNear x (get_or (ordered_sections s) h.j d))
+      (get_or_from_slice_get (ordered_sections s) h.i d d h.first) (right.near h.i h.j d (h.next d))))
 
   -- C6
   abbrev Righted : Type 0
@@ -174,97 +162,143 @@ module _ (s : Subject) where
           (at_number (λ (t : Thing). 0 < t.size → LiesInSegment (loads s.image) t) (things_of s) p.number p.thing right.nonempty
           (thing_at p h.part h.thing) some)
 
-      got : p.name ≡ part_name.Got → ⊥
-      got e =
-          let named = subst (IsNamed s p.number) e h.part.named in
+      got : (p.number ≡ 1) × IsSome s.map.got → ⊥
+      got is =
           h.wrong
-          (got_at s.map.got (map thing_of (placed_of s)) (headers_thing s.image) p.thing p.number (LiesInSegment (loads s.image)) named.0 named.1
+          (got_at s.map.got (map thing_of (placed_of s)) (headers_thing s.image) p.thing p.number (LiesInSegment (loads s.image)) is.0 is.1
           (thing_at p h.part h.thing) right.got)
 
-  -- C14
-  held_at : {A B : Type 0} (o : Option SymtabLine) (v : SymtabLine → A) (x : A) → option_map v o ≡ Some x → IfSome o (HoldsTables s) →
-      ((l : SymtabLine) → HoldsTables s l → v l ≡ x → B) → B
-  held_at None v x e h f = absurd (none-some x e)
-  held_at (Some l) v x e h f = f l h (same_Some (v l) x e)
+-- what an option has where it has something that is made of it
+some_of : {X Y : Type 0} (o : Option X) (v : X → Y) (y : Y) → option_map v o ≡ Some y → (x : X) × (o ≡ Some x) × (v x ≡ y)
+some_of None v y e = absurd (none-some y e)
+some_of (Some x) v y e = (x, refl, same_Some (v x) y e)
 
-  some_held : {B : Type 0} (o : Option SymtabLine) → IsSome o → IfSome o (HoldsTables s) → ((l : SymtabLine) → HoldsTables s l → B) → B
-  some_held None some h f = absurd (false≢true some)
-  some_held (Some l) some h f = f l h
+module _ (s : Subject) where
+  -- what is asked of the table of the line that is there
+  table_held : (line : SymtabLine) → s.map.symtab ≡ Some line → AreTablesRight s → HoldsTables s line
+  table_held line is right = subst (λ (o : Option SymtabLine). IfSome o (HoldsTables s)) is right.held
 
-  table_denied : (p : TablePlace) → FailsInTable s p → AreTablesRight s → ⊥
-  table_denied (table.Told line) h right = h.wrong (ap is_some h.is_line ∙ right.asked h.version)
-  table_denied (table.Sections offset count names) h right = h.wrong (right.none h.untold)
-  table_denied (table.Offset told wanted) h right =
-      held_at s.map.symtab (λ l. l.offset) told h.is_told right.held (λ l t e. h.wrong (sym e ∙ (t.offset ∙ sym h.is_wanted)))
-  table_denied (table.Count told wanted) h right =
-      held_at s.map.symtab (λ l. l.count) told h.is_told right.held (λ l t e. h.wrong (sym e ∙ (t.count ∙ sym h.is_wanted)))
-  table_denied (table.Numbers count names) h right =
-      some_held s.map.symtab h.told right.held (λ l t. h.wrong (h.is_count ∙ t.headers_count, h.is_names ∙ t.names_section))
-  table_denied (table.Headers offset wanted) h right =
-      some_held s.map.symtab h.told right.held (λ l t. h.wrong (h.is_offset ∙ (t.headers_offset ∙ sym h.is_wanted)))
-  table_denied (table.Byte b) h right =
-      some_held s.map.symtab h.told right.held
-      (λ l t. h.wrong (sym h.is_there ∙ (ap (λ (xs : List ℕ). slice_get xs b.number) t.bytes ∙ h.is_wanted)))
+  some_held : IsSome s.map.symtab → AreTablesRight s → ((line : SymtabLine) → HoldsTables s line → ⊥) → ⊥
+  some_held told right never = by s.map.symtab refl
+    where
+      by : (o : Option SymtabLine) → s.map.symtab ≡ o → ⊥
+      by None is = false≢true (ap is_some (sym is) ∙ told)
+      by (Some line) is = never line (table_held line is right)
+
+  -- a number of the file header, where a table is told of and where none is
+  header_right :
+      (n : ℕ) (field : FileHeader → ℕ) (told : ℕ) → ((line : SymtabLine) → HoldsTables s line → field (file_header s.image) ≡ told) →
+      (HasNoSections (file_header s.image) → field (file_header s.image) ≡ 0) → AreTablesRight s →
+      Some (cond (is_some s.map.symtab) told 0) ≡ Some n → field (file_header s.image) ≡ n
+  header_right n field told with_line without right e = by s.map.symtab refl
+    where
+      by : (o : Option SymtabLine) → s.map.symtab ≡ o → field (file_header s.image) ≡ n
+      by None is = without (right.none is) ∙ same_Some 0 n (ap (λ (o : Option SymtabLine). Some (cond (is_some o) told 0)) (sym is) ∙ e)
+      by (Some line) is =
+          with_line line (table_held line is right) ∙ same_Some told n (ap (λ (o : Option SymtabLine). Some (cond (is_some o) told 0)) (sym is) ∙ e)
+
+  number_right :
+      (name : NumberName) (m n : ℕ) → number_there s name ≡ Some m → number_wanted s name ≡ Some n → Holds (clause_of_number name) s → m ≡ n
+  number_right number.GotSize m n there wanted right =
+      let got = some_of s.map.got (λ g. g.size) m there in
+      sym got.2 ∙ ((held s got.0 got.1 right.held).size ∙ same_Some _ n wanted)
+  number_right (number.SlotAddress k) m n there wanted right =
+      let got = some_of s.map.got (λ g. g.address + 8 + 8 * k) n wanted in
+      let row = some_of (slice_get s.map.slots k) (λ r. r.address) m there in
+      let e = stand_at (got.0.address + 8) s.map.slots k row.0 row.1 (held s got.0 got.1 right.held).places in
+      sym row.2 ∙ (e ∙ got.2)
+  number_right number.Length m n there wanted right = by s.map.symtab refl
+    where
+      by : (o : Option SymtabLine) → s.map.symtab ≡ o → m ≡ n
+      by None is =
+          sym (same_Some _ m there)
+          ∙ (right.end is ∙ same_Some (parts_end s) n (ap (λ (o : Option SymtabLine). cond (is_some o) None (Some (parts_end s))) (sym is) ∙ wanted))
+      by (Some line) is = absurd (none-some n (ap (λ (o : Option SymtabLine). cond (is_some o) None (Some (parts_end s))) (sym is) ∙ wanted))
+  number_right number.TableOffset m n there wanted right =
+      let line = some_of s.map.symtab (λ l. l.offset) m there in
+      sym line.2 ∙ ((table_held line.0 line.1 right).offset ∙ same_Some _ n wanted)
+  number_right number.TableCount m n there wanted right =
+      let line = some_of s.map.symtab (λ l. l.count) m there in
+      sym line.2 ∙ ((table_held line.0 line.1 right).count ∙ same_Some _ n wanted)
+  number_right number.HeadersOffset m n there wanted right =
+      sym (same_Some _ m there)
+      ∙ header_right n (λ h. h.e_shoff) (headers_at (parts_end s) (tabled_of s)) (λ line t. t.headers_offset) (λ h. h.offset) right wanted
+  number_right number.HeadersCount m n there wanted right =
+      sym (same_Some _ m there) ∙ header_right n (λ h. h.e_shnum) 4 (λ line t. t.headers_count) (λ h. h.count) right wanted
+  number_right number.NamesSection m n there wanted right =
+      sym (same_Some _ m there) ∙ header_right n (λ h. h.e_shstrndx) 3 (λ line t. t.names_section) (λ h. h.names) right wanted
+
+  byte_right :
+      (b : ByteOf) (k wanted : ℕ) → IsWanted s b k wanted → Holds (clause_of_byte b) s →
+      byte_at s.image (address_of b k) ≡ Some wanted
+  byte_right (of.Got got) k wanted w right = (held s got w.got_is right.held).bytes k w.below ∙ ap Some (sym w.wanted_is)
+  byte_right (of.Piece i q relocation) k wanted w right =
+      (at_number (HoldsPiece (objects_of s) (where_of s) s.image) (placed_of s) i (placed_view q) right w.piece).bytes k w.below
+      ∙ ap Some (sym w.wanted_is)
+  byte_right (of.Fill rights) a wanted w right =
+      let c = some_of (memory_of s.image a) (λ x. x.rights) rights w.rights_are in
+      ap (option_map (λ x. x.byte)) c.1 ∙ ap Some (right.fill a c.0 c.1 w.outside ∙ (ap fill_of c.2 ∙ sym w.wanted_is))
+
+  inner_denied : (inside : Option code.Placed) (at start end : ℕ) → IsInBlock s inside at start end → IsThreadBlockRight s → ⊥
+  inner_denied inside at start end h right = by inside h.inner
+    where
+      all : All (IsClearOf start end) (other_things s)
+      all =
+          subst (λ (n : ℕ). All (IsClearOf start n) (other_things s)) (sym h.is_end)
+          (subst (λ (n : ℕ). All (IsClearOf n (thread_data_end s)) (other_things s)) (sym h.is_start)
+          (at_number (λ (x : ProgramHeader). All (IsClearOf x.p_vaddr (thread_data_end s)) (other_things s)) (thread_blocks s.image) 0 h.header right.clear h.there))
+
+      parts : All (IsClearOf start end) (got_things s.map.got) × All (IsClearOf start end) (map thing_of (filter (λ q. not (is_thread_place q)) (placed_of s)))
+      parts = All-parts (IsClearOf start end) (got_things s.map.got) (map thing_of (filter (λ q. not (is_thread_place q)) (placed_of s))) all
+
+      piece : (q : placement.Placed) → Contains (placed_of s) q → IsInnerPiece start end q → ⊥
+      piece q there (inl zeros) =
+          let e = All-contains (λ (x : placement.Placed). is_thread_zero x.piece ≡ true → thread_data_end s ≤ x.at) (placed_of s) q right.before there zeros.0 in
+          let w = zeros.1 in
+          let same = h.is_end in
+          omega (arith, e, w, same)
+      piece q there (inr other) =
+          let each = All-unfilter (λ (x : placement.Placed). not (is_thread_place x)) (λ (x : placement.Placed). IsClearOf start end (thing_of x)) (placed_of s) (All-unmap (IsClearOf start end) thing_of (filter (λ (x : placement.Placed). not (is_thread_place x)) (placed_of s)) parts.1) in
+          other.1 (All-contains (λ (x : placement.Placed). not (is_thread_place x) ≡ true → IsClearOf start end (thing_of x)) (placed_of s) q each there (ap not other.0))
+
+      by : (o : Option code.Placed) → IsInner s start end o at → ⊥
+      by None (k, x, c, d, inner) = inner.1 (All-contains (IsClearOf start end) (got_things s.map.got) x parts.0 (k, c, d))
+      by (Some q) inner = piece (placed_view q) inner.0 inner.1.1
 
 -- each place denies its clause
 pub denies : (s : Subject) (p : CheckPlace) → IsMap s.map → FailsIn s p → Holds (clause_of p) s → ⊥
-denies s (place.ObjectLine p) is_map h right = h.wrong (ap (λ rows. slice_get rows p.number) right.rows)
-denies s (place.DropLine p) is_map h right = h.wrong (sym h.line ∙ (ap (λ rows. slice_get rows p.number) right.drops ∙ h.wanted))
-denies s (place.PlaceLine p) is_map h right =
+denies s (place.Line (key.Object k) wanted) is_map h right = h.wrong (ap (λ rows. slice_get rows k) right.rows ∙ rows_at 0 k k (objects_of s) (omega arith))
+denies s (place.Line (key.Drop k) wanted) is_map h right = h.wrong (ap (λ rows. slice_get rows k) right.drops)
+denies s (place.Line (key.Place k) wanted) is_map h right =
     h.wrong
-    (sym (slice_get-map facts_of_row s.map.places p.number)
-    ∙ (ap (λ facts. slice_get facts p.number) right.places ∙ slice_get-map facts_of_piece (kept_sections (objects_of s)) p.number))
-denies s (place.CommonLine p) is_map h right = h.wrong (right.commons p.name.now)
+    (sym (slice_get-map facts_of_row s.map.places k)
+    ∙ (ap (λ facts. slice_get facts k) right.places ∙ slice_get-map facts_of_piece (kept_sections (objects_of s)) k))
+denies s (place.Line (key.Common name) wanted) is_map h right = h.wrong (right.commons name.now)
+denies s (place.Line (key.Symbol name) wanted) is_map h right = h.wrong (right.lines name.now)
 denies s (place.Unaligned p) is_map h right = unaligned_denied s p h right
-denies s (place.Outside p base) is_map h right = outside_denied s p base h right
+denies s (place.Outside p) is_map h right = outside_denied s p h right
 denies s (place.Shared p q) is_map h right = shared_denied s p q h right
-denies s (place.Far n) is_map h right = far_denied s n h right
+denies s (place.Far p q) is_map h right = far_denied s p q h right
 denies s (place.Unheld p segment) is_map h right = unheld_denied s p segment h right
-denies s (place.First address base) is_map h right = h.wrong (h.is_address ∙ (right.first ∙ sym h.is_base))
+denies s (place.First address) is_map h right = h.wrong (h.is_address ∙ right.first)
 denies s (place.Got there) is_map h right = h.wrong right.present
-denies s (place.UnaskedSlot k q) is_map h right = h.wrong (right.slots (request_view q))
-denies s (place.RepeatedSlot i k q) is_map h right = h.wrong (right.slots (request_view q))
+denies s (place.SlotLine k first q) is_map h right = h.wrong (right.slots (request_view q))
 denies s (place.NoSlot p q) is_map h right = h.wrong (right.slots (request_view q))
-denies s (place.GotSize got wanted) is_map h right = h.wrong (held s got h.got_is right.held).size
-denies s (place.SlotAddress k there wanted) is_map h right =
-    let e = stand_at (h.got.address + 8) s.map.slots k h.row h.line (held s h.got h.got_is right.held).places in
-    h.wrong (omega (arith, e))
-denies s (place.GotByte p) is_map h right = h.wrong ((held s p.got h.got right.held).bytes p.offset h.below)
+denies s (place.Number name there wanted) is_map h right = h.wrong (number_right s name there wanted h.is_there h.is_wanted right)
+denies s (place.Byte p) is_map h right = h.wrong (h.there ∙ byte_right s p.of p.offset p.wanted h.wanted right)
 denies s (place.ThreadHeader there wanted) is_map h right = h.wrong right.headers
-denies s (place.ThreadZeros k q end) is_map h right =
-    let e = at_number (λ (x : placement.Placed). is_thread_zero x.piece ≡ true → thread_data_end s ≤ x.at) (placed_of s) k (placed_view q) right.before h.there h.zeros in
-    let w = h.wrong in
-    omega (arith, e, w)
-denies s (place.GotInThreadBlock got start end) is_map h right =
-    let all = clear_at s start end h.block right.clear in
-    let gots = (All-parts (IsClearOf start end) (got_things s.map.got) (map thing_of (filter (λ q. not (is_thread_place q)) (placed_of s))) all).0 in
-    let one = subst (λ (o : Option GotLine). All (IsClearOf start end) (got_things o)) h.got_is gots in
-    h.wrong (All-head (IsClearOf start end) (got_thing got) [] one)
-denies s (place.PieceInThreadBlock k q start end) is_map h right =
-    let all = clear_at s start end h.block right.clear in
-    let rest = (All-parts (IsClearOf start end) (got_things s.map.got) (map thing_of (filter (λ q. not (is_thread_place q)) (placed_of s))) all).1 in
-    let each = All-unfilter (λ (x : placement.Placed). not (is_thread_place x)) (λ (x : placement.Placed). IsClearOf start end (thing_of x)) (placed_of s) (All-unmap (IsClearOf start end) thing_of (filter (λ (x : placement.Placed). not (is_thread_place x)) (placed_of s)) rest) in
-    h.wrong (at_number (λ (x : placement.Placed). not (is_thread_place x) ≡ true → IsClearOf start end (thing_of x)) (placed_of s) k (placed_view q) each h.there (ap not h.other))
+denies s (place.InThreadBlock name at start end) is_map h right = inner_denied s name at start end h right
 denies s (place.ThreadBytes x) is_map h right = h.wrong (at_number (HoldsInitial (loads s.image)) (thread_blocks s.image) 0 x right.held h.there)
 denies s (place.Relocation p f) is_map h right =
     unlawful_denied (objects_of s) h.r f h.wrong (at_place (IsLawfulRelocation (objects_of s)) (objects_of s) p h.r h.at right.lawful.each)
 denies s (place.Overlap p q) is_map h right = h.1 right
 denies s (place.Value p value address) is_map h right =
     h.wrong (at_place (Fits (objects_of s) (where_of s)) (objects_of s) p h.r h.at right.fits)
-denies s (place.Byte p) is_map h right =
-    h.wrong ((at_number (HoldsPiece (objects_of s) (where_of s) s.image) (placed_of s) p.number (placed_view p.piece) right h.piece).bytes p.offset h.below)
-denies s (place.Fill p) is_map h right = h.wrong (right.fill p.address (record { byte = p.byte; rights = p.rights }) h.there h.outside)
-denies s (place.EmptySegment p) is_map h right = h.wrong (at_number (EndsRight (things_of s)) (loads s.image) p.number p.header right.segments h.there)
 denies s (place.SegmentEnd p in_file end) is_map h right = h.wrong (at_number (EndsRight (things_of s)) (loads s.image) p.number p.header right.segments h.there)
 denies s (place.Gap i byte) is_map h right = h.wrong (right.gaps i h.below h.outside)
-denies s (place.Length len end) is_map h right = h.wrong (right.end h.untold)
-denies s (place.Entry p) is_map h right = h.wrong right
-denies s (place.SymbolLine p) is_map h right =
-    h.wrong
-    (at_number (IsLine (objects_of s) (where_of s)) s.map.symbols p.number (symbol_row p.line.now)
-    (each_line (objects_of s) (where_of s) s.map.symbols is_map.ordered.symbols right.lines) h.line)
-denies s (place.NoSymbolLine name p) is_map h right =
-    none-some (symbol_row_of (where_of s) (meaning_view p.meaning))
-    (sym h.none ∙ (right.lines name.now ∙ ap (option_map (symbol_row_of (where_of s))) h.meant.meaning))
-denies s (place.Table p) is_map h right = table_denied s p h right
+denies s (place.Entry e_entry value) is_map h right = h.wrong right
+denies s (place.Symtab there) is_map h right = h.wrong (h.is_there ∙ right.asked h.version)
+denies s (place.TableByte b) is_map h right =
+    some_held s h.told right
+    (λ line t. h.wrong (sym h.is_there ∙ (ap (λ (xs : List ℕ). slice_get xs b.number) t.bytes ∙ h.is_wanted)))
 denies s (place.Whole c) is_map h right = h right

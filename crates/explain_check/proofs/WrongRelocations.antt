@@ -1,10 +1,10 @@
 -- What is wrong with an entry, by what its symbol means, is wrong with its relocation in the link.
-use Rattle.std.proofs.Common.{◌≡◌, ℕ, ◌≤◌, ◌+◌, ◌-◌, ◌%◌, ◌^◌, ◌*◌, Bool, List, Option, Some, ap, subst, sym, ◌∙◌}
+use Rattle.std.proofs.Common.{◌≡◌, ℕ, ◌≤◌, ◌+◌, ◌-◌, ◌%◌, ◌^◌, ◌*◌, Bool, Option, Some, ap, subst, sym, ◌∙◌}
 use Rattle.std.specs.Prelude.{IfSome, IsSomeAnd}
 use Rattle.elf_model.specs.Link.Loading.{LoadedObject}
 use Rattle.elf_model.specs.Inputs.ObjectFile.{rela_symbol, rela_type, section, sections}
 use Rattle.elf_model.specs.Link.Placement.{got_start, section_address}
-use Rattle.elf_model.specs.Link.Relocation.{IsInRange, IsMismatch, Kind, Relocation, kind_of, relocation_of, symbol_at}
+use Rattle.elf_model.specs.Link.Relocation.{IsInRange, IsMismatch, Kind, kind_of, relocation_of, symbol_at}
 use Rattle.elf_model.specs.Link.RelocationValues.{Fits, value_of}
 use Rattle.elf_model.specs.Image.RightLink.{Subject, objects_of, where_of}
 use Rattle.elf_model.specs.Link.Slots.{slot_address}
@@ -16,69 +16,60 @@ use Rattle.check_relocs.specs.LawfulFields.{is_frames, value_with}
 use Rattle.check_relocs.specs.declared.lawful_fields.LinkTerms.{LinkTerms}
 use Rattle.check_relocs.specs.declared.lawful_fields.Relocated.{Relocated}
 use Rattle.check_relocs.specs.declared.targets.Target.{Target}
-use Rattle.input_names.specs.RelocationPlaces.{IsRelocationAt}
-use Rattle.explain_check.specs.RelocationPlaces.{IsUnfit, IsUnlawful, IsWrongRelocation}
-use Rattle.explain_check.specs.RelocationPlaces.{IsWrongWith}
+use Rattle.input_names.specs.RelocationPlaces.{IsKeptOf, IsRelocationAt}
+use Rattle.explain_check.specs.RelocationPlaces.{IsUnfit, IsUnlawful, IsWrongRelocation, IsWrongWith}
 use Rattle.input_names.specs.declared.relocation_faults.RelocationFault.{RelocationFault}
 use Rattle.input_names.specs.declared.relocation_faults.RelocationFault.TheVariants as fault
 use Rattle.input_names.specs.declared.relocation_places.RelocationPlace.{RelocationPlace}
 
-module _ (b : Bound) (n : ℕ) (o : LoadedObject) (to : Relocated) (g : LinkTerms) (e : Rela) (t : Target) (means : IsTargetOf b (symbol_at n o (rela_symbol e)) t) (size : to.size ≡ (section (sections o.bytes) to.section).sh_size) (frames : to.frames ≡ is_frames o.bytes to.section) (address : to.address ≡ section_address b.places.placed n to.section) (slot : g.slot ≡ slot_address b.places.slots (relocation_of n o to.section e) - got_start b.places.got) (got : g.got ≡ got_start b.places.got) (pointer : g.thread_pointer ≡ thread_pointer b.places.placed) where
-  pub unlawful : (f : RelocationFault) → IsWrongWith (kind_of (rela_type e)) t to e f → IsUnlawful b.objects (relocation_of n o to.section e) f
-  unlawful fault.Undefined h = means.undefined.0 h
-  unlawful fault.RefToDropped h = refers b n o to g e t means size frames address slot got pointer h
+-- what an entry relocates, what its symbol means, and the other terms of its value
+pub record AreTerms (b : Bound) (n : ℕ) (o : LoadedObject) (e : Rela) (to : Relocated) (t : Target) (g : LinkTerms) : Type 0 where
+  pub means : IsTargetOf b (symbol_at n o (rela_symbol e)) t
+  pub size : to.size ≡ (section (sections o.bytes) to.section).sh_size
+  pub frames : to.frames ≡ is_frames o.bytes to.section
+  pub address : to.address ≡ section_address b.places.placed n to.section
+  pub slot : g.slot ≡ slot_address b.places.slots (relocation_of n o to.section e) - got_start b.places.got
+  pub got : g.got ≡ got_start b.places.got
+  pub pointer : g.thread_pointer ≡ thread_pointer b.places.placed
+
+module _ (s : Subject) (p : RelocationPlace) (n : ℕ) (o : LoadedObject) (to : Relocated) (t : Target) (g : LinkTerms) (at : IsKeptOf (objects_of s) n o p) (here : to.section ≡ p.section) (a : AreTerms (bound_of s) n o p.entry to t g) where
+  abbrev e : Rela
+  e = p.entry
+
+  relocated_at : IsRelocationAt (objects_of s) p (relocation_of n o to.section e)
+  relocated_at = subst (λ (i : ℕ). IsRelocationAt (objects_of s) p (relocation_of n o i e)) (sym here) at
+
+  unlawful : (f : RelocationFault) → IsWrongWith (kind_of (rela_type e)) t to e f → IsUnlawful (objects_of s) (relocation_of n o to.section e) f
+  unlawful fault.Undefined h = a.means.undefined.0 h
+  unlawful fault.RefToDropped h = refers (bound_of s) n o to g e t a.means a.size a.frames a.address a.slot a.got a.pointer h
   unlawful fault.RelocKind h = h
-  unlawful fault.FieldOutside h = λ inside. h (subst (λ (x : ℕ). IfSome (kind_of (rela_type e)) (λ k. e.r_offset + k.width ≤ x)) (sym size) inside)
-  unlawful fault.TlsMismatch h = subst (λ (x : Bool). IsSomeAnd (kind_of (rela_type e)) (λ k. IsMismatch k.formula x)) means.thread_local h
-  unlawful fault.MixedSection h = means.mixed.0 h
+  unlawful fault.FieldOutside h = λ inside. h (subst (λ (x : ℕ). IfSome (kind_of (rela_type e)) (λ k. e.r_offset + k.width ≤ x)) (sym a.size) inside)
+  unlawful fault.TlsMismatch h = subst (λ (x : Bool). IsSomeAnd (kind_of (rela_type e)) (λ k. IsMismatch k.formula x)) a.means.thread_local h
+  unlawful fault.MixedSection h = a.means.mixed.0 h
 
-  pub value_same : (k : Kind) → kind_of (rela_type e) ≡ Some k → value_with (Some k) t to g e ≡ value_of b.objects b.places (relocation_of n o to.section e)
-  value_same k is = ap (λ (x : Option Kind). value_with x t to g e) (sym is) ∙ value_is b n o to g e t means size frames address slot got pointer
+  -- a relocation that isn't lawful
+  pub told_unlawful : (f : RelocationFault) → IsWrongWith (kind_of (rela_type e)) t to e f → IsWrongRelocation (objects_of s) p f
+  told_unlawful f h = record { r = relocation_of n o to.section e; at = relocated_at; wrong = unlawful f h }
 
-  pub unfit :
-      (k : Kind) → kind_of (rela_type e) ≡ Some k → ¬ IsInRange k.range (8 * k.width) (value_with (Some k) t to g e) →
-      ¬ Fits b.objects b.places (relocation_of n o to.section e)
-  unfit k is out fits =
-      let there = subst (λ (x : Option Kind). IfSome x (λ j. IsInRange j.range (8 * j.width) (value_of b.objects b.places (relocation_of n o to.section e)))) is fits in
-      out (subst (λ (v : ℕ). IsInRange k.range (8 * k.width) v) (sym (value_same k is)) there)
+  -- a value that doesn't fit
+  module _ (k : Kind) (is : kind_of (rela_type e) ≡ Some k) where
+    value_same : value_with (Some k) t to g e ≡ value_of (objects_of s) (where_of s) (relocation_of n o to.section e)
+    value_same =
+        ap (λ (x : Option Kind). value_with x t to g e) (sym is)
+        ∙ value_is (bound_of s) n o to g e t a.means a.size a.frames a.address a.slot a.got a.pointer
 
--- a relocation that isn't lawful among what is bound isn't lawful in the link
-pub told_unlawful :
-    (s : Subject) (b : Bound) (objects : List LoadedObject) (p : RelocationPlace) (n : ℕ) (o : LoadedObject) (k to : ℕ) (e : Rela) (f : RelocationFault) →
-    b ≡ bound_of s → objects ≡ b.objects → to ≡ k → IsRelocationAt objects p (relocation_of n o k e) → IsUnlawful b.objects (relocation_of n o to e) f →
-    IsWrongRelocation (objects_of s) p f
-told_unlawful s b objects p n o k to e f is same section at wrong =
-    let os : b.objects ≡ objects_of s = ap (λ (x : Bound). x.objects) is in
-    record {
-      r = relocation_of n o k e;
-      at = subst (λ (xs : List LoadedObject). IsRelocationAt xs p (relocation_of n o k e)) (same ∙ os) at;
-      wrong =
-          subst (λ (xs : List LoadedObject). IsUnlawful xs (relocation_of n o k e) f) os
-          (subst (λ (i : ℕ). IsUnlawful b.objects (relocation_of n o i e) f) section wrong);
-    }
+    unfit : ¬ IsInRange k.range (8 * k.width) (value_with (Some k) t to g e) → ¬ Fits (objects_of s) (where_of s) (relocation_of n o to.section e)
+    unfit out fits =
+        let there = subst (λ (x : Option Kind). IfSome x (λ j. IsInRange j.range (8 * j.width) (value_of (objects_of s) (where_of s) (relocation_of n o to.section e)))) is fits in
+        out (subst (λ (v : ℕ). IsInRange k.range (8 * k.width) v) (sym value_same) there)
 
--- a value that doesn't fit where things are bound doesn't fit in the link
-record Unfit (b : Bound) (r : Relocation) (value address : ℕ) : Type 0 where
-  pub is_value : value ≡ value_of b.objects b.places r
-  pub is_address : address ≡ (section_address b.places.placed r.object r.section + r.entry.r_offset) % 2 ^ 64
-  pub wrong : ¬ Fits b.objects b.places r
-
-pub told_unfit :
-    (s : Subject) (b : Bound) (objects : List LoadedObject) (p : RelocationPlace) (n : ℕ) (o : LoadedObject) (k to : ℕ) (e : Rela) (value address : ℕ) →
-    b ≡ bound_of s → objects ≡ b.objects → to ≡ k → IsRelocationAt objects p (relocation_of n o k e) →
-    value ≡ value_of b.objects b.places (relocation_of n o to e) →
-    address ≡ (section_address b.places.placed n to + e.r_offset) % 2 ^ 64 → ¬ Fits b.objects b.places (relocation_of n o to e) →
-    IsUnfit (objects_of s) (where_of s) p value address
-told_unfit s b objects p n o k to e value address is same section at is_value is_address wrong =
-    let os : b.objects ≡ objects_of s = ap (λ (x : Bound). x.objects) is in
-    let u : Unfit b (relocation_of n o to e) value address = record { is_value = is_value; is_address = is_address; wrong = wrong } in
-    let v =
-    subst (λ (x : Bound). Unfit x (relocation_of n o k e) value address) is
-    (subst (λ (i : ℕ). Unfit b (relocation_of n o i e) value address) section u) in
-    record {
-      r = relocation_of n o k e;
-      at = subst (λ (xs : List LoadedObject). IsRelocationAt xs p (relocation_of n o k e)) (same ∙ os) at;
-      is_value = v.is_value;
-      is_address = v.is_address;
-      wrong = v.wrong;
+    pub told_unfit :
+        (value : ℕ) → value ≡ value_with (Some k) t to g e → ¬ IsInRange k.range (8 * k.width) value →
+        IsUnfit (objects_of s) (where_of s) p value ((to.address + e.r_offset) % 2 ^ 64)
+    told_unfit value is_value out = record {
+      r = relocation_of n o to.section e;
+      at = relocated_at;
+      is_value = is_value ∙ value_same;
+      is_address = ap (λ (x : ℕ). (x + e.r_offset) % 2 ^ 64) a.address;
+      wrong = unfit (λ fit. out (subst (λ (v : ℕ). IsInRange k.range (8 * k.width) v) (sym is_value) fit));
     }

@@ -1,13 +1,13 @@
 -- Which slots deny that each request has one slot where a relocation makes it, and none elsewhere.
-use Rattle.std.proofs.Common.{◌≡◌, ℕ, zero, suc, ◌+◌, ◌<◌, ◌≤◌, Bool, true, false, not, cond, List, [], ◌∷◌, Option, Some, sym, ◌∙◌, ap, subst, arith}
+use Rattle.std.proofs.Common.{◌≡◌, ℕ, zero, suc, ◌+◌, ◌<◌, ◌≤◌, Bool, true, false, not, cond, List, [], ◌∷◌, None, Option, Some, refl, sym, ◌∙◌, ap, subst, arith}
 use Rattle.std.specs.Prelude.{Contains}
-use Rattle.std.specs.List.{filter_map, list_any, slice_get}
+use Rattle.std.specs.List.{filter_map, list_any, position_from, slice_get}
 use Rattle.std.specs.Option.{option_map_or}
 use Rattle.std.proofs.lemmas.Bool.{false≢true}
 use Rattle.std.proofs.lemmas.List.Folds.{list_any-from_Any}
 use Rattle.std.proofs.lemmas.Option.{get_or_from_slice_get, none-some, same_Some}
 use Rattle.elf_model.proofs.Listed.{Contains-from_slice_get}
-use Rattle.elf_model.proofs.SameRequests.{same_itself}
+use Rattle.elf_model.proofs.SameRequests.{requests_equal, same_itself}
 use Rattle.elf_model.specs.Link.Loading.{LoadedObject}
 use Rattle.elf_model.specs.Image.MapRecord.{SlotRow}
 use Rattle.elf_model.specs.Link.Relocation.{Relocation, relocations}
@@ -19,7 +19,7 @@ use Rattle.check_relocs.proofs.NeedSteps.{any_requests}
 use Rattle.check_relocs.specs.Needs.{AreNeeds, asks_for_slot}
 use Rattle.check_relocs.specs.declared.needs.Needs.{Needs}
 use Rattle.checker.proofs.SlotCounts.{any_counted, count, count_is, none_counted}
-use Rattle.explain_check.specs.GotPlaces.{IsRepeated, IsUnasked, IsUnserved}
+use Rattle.explain_check.specs.GotPlaces.{IsSlotLine, IsUnserved, IsWrongSlot}
 use Rattle.input_names.proofs.ListedPlaces.{listed}
 use Rattle.input_names.specs.RelocationPlaces.{IsRelocationAt}
 use Rattle.input_names.specs.declared.relocation_places.RelocationPlace.{RelocationPlace}
@@ -78,6 +78,21 @@ module _ (rows : List SlotRow) (objects : List LoadedObject) (q : Request) where
       let one : count q rows ≡ 1 = count_is q rows ∙ has ∙ ap (λ (b : Bool). cond b 1 0) wanted in
       omega (arith, zeroed, one)
 
+-- the first line of a request, where lines have numbers from one on, is for it
+abbrev HasLineAt : Request → List SlotRow → ℕ → ℕ → Type 0
+HasLineAt q rows n i = (k : ℕ) × (row : SlotRow) × (i ≡ n + k) × (slice_get rows k ≡ Some row) × (is_slot_of q row ≡ true)
+
+first_line : (q : Request) (rows : List SlotRow) (n i : ℕ) → position_from (is_slot_of q) n rows ≡ Some i → HasLineAt q rows n i
+first_line q [] n i e = absurd (none-some i e)
+first_line q (row ∷ rows) n i e = by (is_slot_of q row) refl (first_line q rows (n + 1) i)
+  where
+    found : (t : Bool) → is_slot_of q row ≡ t → cond t (Some n) (position_from (is_slot_of q) (n + 1) rows) ≡ Some i
+    found t is = ap (λ (b : Bool). cond b (Some n) (position_from (is_slot_of q) (n + 1) rows)) (sym is) ∙ e
+
+    by : (t : Bool) → is_slot_of q row ≡ t → (position_from (is_slot_of q) (n + 1) rows ≡ Some i → HasLineAt q rows (n + 1) i) → HasLineAt q (row ∷ rows) n i
+    by true is later = let here : n ≡ i = same_Some n i (found true is) in (0, row, omega (arith, here), refl, is)
+    by false is later = let f = later (found false is) in let at = f.2 in (suc f.0, f.1, omega (arith, at), f.3, f.4)
+
 -- a request whose line has no mark is none of these
 pub unmarked :
     (needs : Needs) (objects : List LoadedObject) (rows : List SlotRow) → AreNeeds objects rows needs → (q : Request) (i : ℕ) → line_of rows q ≡ Some i →
@@ -95,22 +110,26 @@ asked_by q rs r c asks =
 -- the same of a link, as places say it
 pub is_unasked :
     (s : Subject) (k : ℕ) (row : SlotRow) (q : code.Request) → slice_get s.map.slots k ≡ Some row → request_view q ≡ row_request row →
-    list_any (same_request (request_view q)) (requests (objects_of s)) ≡ false → IsUnasked s k q
+    list_any (same_request (request_view q)) (requests (objects_of s)) ≡ false → IsWrongSlot s k None q
 is_unasked s k row q there is none = record {
   line = record { row = row; there = there; request = sym is };
-  unasked = none;
+  needless = none;
   wrong = unasked s.map.slots (objects_of s) (request_view q) k row there (sym is) none;
 }
 
 pub is_repeated :
-    (s : Subject) (i k : ℕ) (a b : SlotRow) (q : code.Request) → i < k → slice_get s.map.slots i ≡ Some a → slice_get s.map.slots k ≡ Some b →
-    request_view q ≡ row_request a → request_view q ≡ row_request b → IsRepeated s i k q
-is_repeated s i k a b q behind first second is same = record {
-  first = record { row = a; there = first; request = sym is };
-  second = record { row = b; there = second; request = sym same };
-  behind = behind;
-  wrong = repeated s.map.slots (objects_of s) (request_view q) i k a b behind first second (sym is) (sym same);
-}
+    (s : Subject) (rows : List SlotRow) (i k : ℕ) (q : code.Request) → rows ≡ s.map.slots → i < k → line_of rows (request_view q) ≡ Some i →
+    IsSlotLine s k q → IsWrongSlot s k (Some i) q
+is_repeated s rows i k q same behind first line =
+    let f = first_line (request_view q) s.map.slots 0 i (ap (λ (rs : List SlotRow). line_of rs (request_view q)) (sym same) ∙ first) in
+    let at = f.2 in
+    let e : i ≡ f.0 = omega (arith, at) in
+    let there = ap (slice_get s.map.slots) e ∙ f.3 in
+    let is = sym (requests_equal (request_view q) (row_request f.1) f.4) in record {
+      line = line;
+      needless = (record { row = f.1; there = there; request = is }, behind);
+      wrong = repeated s.map.slots (objects_of s) (request_view q) i k f.1 line.row behind there line.there is line.request;
+    }
 
 pub is_unserved :
     (s : Subject) (p : RelocationPlace) (r : Relocation) (q : code.Request) → IsRelocationAt (objects_of s) p r → request_of r ≡ Some (request_view q) →

@@ -1,6 +1,8 @@
+pub mod BytePlaces
 pub mod FillPlaces
 pub mod GotPlaces
 pub mod LinePlaces
+pub mod NumberPlaces
 pub mod PlacementPlaces
 pub mod Places
 pub mod RelocationPlaces

@@ -7,90 +7,93 @@ use Rattle.elf_model.specs.Image.RightLink.{AreRelocationsRight, Holds, HoldsBef
 use Rattle.elf_model.specs.declared.verdict.Clause.{Clause}
 use Rattle.elf_model.specs.declared.verdict.Clause.TheVariants.{C2, C3, C5, C6, C7, C8, C9, C10, C11, C12, C13, C14}
 use Rattle.input_names.specs.RelocationPlaces.{IsOverlap}
-use Rattle.explain_check.specs.FillPlaces.{IsEmptySegment, IsWrongEnd, IsWrongFill, IsWrongGap, IsWrongLength}
-use Rattle.explain_check.specs.GotPlaces.{IsRepeated, IsUnasked, IsUnserved, IsWrongGotByte, IsWrongPresence, IsWrongSize, IsWrongSlotAddress}
-use Rattle.explain_check.specs.LinePlaces.{IsWrongCommon, IsWrongDrop, IsWrongEntry, IsWrongLine, IsWrongObject, IsWrongPlace, LacksLine}
-use Rattle.explain_check.specs.PlacementPlaces.{AreEarlyZeros, AreFar, AreUnheld, IsGotInside, IsOutside, IsPieceInside, IsShared, IsUnaligned, IsUnheld, IsWrongFirst, IsWrongThreadHeader}
-use Rattle.explain_check.specs.RelocationPlaces.{IsUnfit, IsWrongByte, IsWrongRelocation}
-use Rattle.explain_check.specs.TablePlaces.{FailsInTable}
+use Rattle.explain_check.specs.BytePlaces.{IsWrongByte}
+use Rattle.explain_check.specs.FillPlaces.{IsWrongEnd, IsWrongGap}
+use Rattle.explain_check.specs.GotPlaces.{IsUnserved, IsWrongPresence, IsWrongSlot}
+use Rattle.explain_check.specs.LinePlaces.{IsWrongEntry, IsWrongLine}
+use Rattle.explain_check.specs.NumberPlaces.{IsWrongNumber}
+use Rattle.explain_check.specs.PlacementPlaces.{AreFar, AreUnheld, IsInBlock, IsOutside, IsShared, IsUnaligned, IsUnheld, IsWrongFirst, IsWrongThreadHeader}
+use Rattle.explain_check.specs.RelocationPlaces.{IsUnfit, IsWrongRelocation}
+use Rattle.explain_check.specs.TablePlaces.{IsWronglyTold, IsWrongTableByte}
+use Rattle.explain_check.specs.declared.place.ByteOf.{ByteOf}
+use Rattle.explain_check.specs.declared.place.ByteOf.TheVariants as of
 use Rattle.explain_check.specs.declared.place.CheckPlace.TheVariants as place
 use Rattle.explain_check.specs.declared.place.CheckPlace.{CheckPlace}
+use Rattle.explain_check.specs.declared.place.LineKey.TheVariants as key
+use Rattle.explain_check.specs.declared.place.NumberName.{NumberName}
+use Rattle.explain_check.specs.declared.place.NumberName.TheVariants as number
 
 abbrev pub FailsIn : Subject → CheckPlace → Type 0
-FailsIn s (place.ObjectLine p) = IsWrongObject s p
-FailsIn s (place.DropLine p) = IsWrongDrop s p
-FailsIn s (place.PlaceLine p) = IsWrongPlace s p
-FailsIn s (place.CommonLine p) = IsWrongCommon s p
+FailsIn s (place.Line k wanted) = IsWrongLine s k wanted
 FailsIn s (place.Unaligned p) = IsUnaligned s p
-FailsIn s (place.Outside p base) = IsOutside s p base
+FailsIn s (place.Outside p) = IsOutside s p
 FailsIn s (place.Shared p q) = IsShared s p q
-FailsIn s (place.Far n) = AreFar s n
+FailsIn s (place.Far p q) = AreFar s p q
 FailsIn s (place.Unheld p segment) = IsUnheld s p segment
-FailsIn s (place.First address base) = IsWrongFirst s address base
+FailsIn s (place.First address) = IsWrongFirst s address
 FailsIn s (place.Got there) = IsWrongPresence s there
-FailsIn s (place.UnaskedSlot k q) = IsUnasked s k q
-FailsIn s (place.RepeatedSlot i k q) = IsRepeated s i k q
+FailsIn s (place.SlotLine k first q) = IsWrongSlot s k first q
 FailsIn s (place.NoSlot p q) = IsUnserved s p q
-FailsIn s (place.GotSize got wanted) = IsWrongSize s got wanted
-FailsIn s (place.SlotAddress k there wanted) = IsWrongSlotAddress s k there wanted
-FailsIn s (place.GotByte p) = IsWrongGotByte s p
+FailsIn s (place.Number name there wanted) = IsWrongNumber s name there wanted
+FailsIn s (place.Byte p) = IsWrongByte s p
 FailsIn s (place.ThreadHeader there wanted) = IsWrongThreadHeader s there wanted
-FailsIn s (place.ThreadZeros k q end) = AreEarlyZeros s k q end
-FailsIn s (place.GotInThreadBlock got start end) = IsGotInside s got start end
-FailsIn s (place.PieceInThreadBlock k q start end) = IsPieceInside s k q start end
+FailsIn s (place.InThreadBlock name at start end) = IsInBlock s name at start end
 FailsIn s (place.ThreadBytes h) = AreUnheld s h
 FailsIn s (place.Relocation p f) = IsWrongRelocation (objects_of s) p f
 FailsIn s (place.Overlap p q) = IsOverlap (objects_of s) p q × (¬ AreRelocationsRight s)
 FailsIn s (place.Value p value address) = IsUnfit (objects_of s) (where_of s) p value address
-FailsIn s (place.Byte p) = IsWrongByte s p
-FailsIn s (place.Fill p) = IsWrongFill s p
-FailsIn s (place.EmptySegment p) = IsEmptySegment s p
 FailsIn s (place.SegmentEnd p in_file end) = IsWrongEnd s p in_file end
 FailsIn s (place.Gap i byte) = IsWrongGap s.image i byte
-FailsIn s (place.Length len end) = IsWrongLength s len end
-FailsIn s (place.Entry p) = IsWrongEntry s p
-FailsIn s (place.SymbolLine p) = IsWrongLine s p
-FailsIn s (place.NoSymbolLine name p) = LacksLine s name.now p
-FailsIn s (place.Table p) = FailsInTable s p
+FailsIn s (place.Entry e_entry value) = IsWrongEntry s e_entry value
+FailsIn s (place.Symtab there) = IsWronglyTold s there
+FailsIn s (place.TableByte b) = IsWrongTableByte s b
 FailsIn s (place.Whole c) = ¬ Holds c s
+
+-- the clause that determines a number, and the one that says which byte is wanted
+abbrev pub clause_of_number : NumberName → Clause
+clause_of_number number.GotSize = C7
+clause_of_number (number.SlotAddress k) = C7
+clause_of_number number.Length = C11
+clause_of_number number.TableOffset = C14
+clause_of_number number.TableCount = C14
+clause_of_number number.HeadersOffset = C14
+clause_of_number number.HeadersCount = C14
+clause_of_number number.NamesSection = C14
+
+abbrev pub clause_of_byte : ByteOf → Clause
+clause_of_byte (of.Got got) = C7
+clause_of_byte (of.Piece k q relocation) = C10
+clause_of_byte (of.Fill rights) = C11
 
 -- the clause that fails at a place
 abbrev pub clause_of : CheckPlace → Clause
-clause_of (place.ObjectLine p) = C2
-clause_of (place.DropLine p) = C3
-clause_of (place.PlaceLine p) = C3
-clause_of (place.CommonLine p) = C3
+clause_of (place.Line (key.Object k) wanted) = C2
+clause_of (place.Line (key.Drop k) wanted) = C3
+clause_of (place.Line (key.Place k) wanted) = C3
+clause_of (place.Line (key.Common name) wanted) = C3
+clause_of (place.Line (key.Symbol name) wanted) = C13
 clause_of (place.Unaligned p) = C5
-clause_of (place.Outside p base) = C5
+clause_of (place.Outside p) = C5
 clause_of (place.Shared p q) = C5
-clause_of (place.Far n) = C5
+clause_of (place.Far p q) = C5
 clause_of (place.Unheld p segment) = C6
-clause_of (place.First address base) = C6
+clause_of (place.First address) = C6
 clause_of (place.Got there) = C7
-clause_of (place.UnaskedSlot k q) = C7
-clause_of (place.RepeatedSlot i k q) = C7
+clause_of (place.SlotLine k first q) = C7
 clause_of (place.NoSlot p q) = C7
-clause_of (place.GotSize got wanted) = C7
-clause_of (place.SlotAddress k there wanted) = C7
-clause_of (place.GotByte p) = C7
+clause_of (place.Number name there wanted) = clause_of_number name
+clause_of (place.Byte p) = clause_of_byte p.of
 clause_of (place.ThreadHeader there wanted) = C8
-clause_of (place.ThreadZeros k q end) = C8
-clause_of (place.GotInThreadBlock got start end) = C8
-clause_of (place.PieceInThreadBlock k q start end) = C8
+clause_of (place.InThreadBlock name at start end) = C8
 clause_of (place.ThreadBytes h) = C8
 clause_of (place.Relocation p f) = C9
 clause_of (place.Overlap p q) = C9
 clause_of (place.Value p value address) = C9
-clause_of (place.Byte p) = C10
-clause_of (place.Fill p) = C11
-clause_of (place.EmptySegment p) = C11
 clause_of (place.SegmentEnd p in_file end) = C11
 clause_of (place.Gap i byte) = C11
-clause_of (place.Length len end) = C11
-clause_of (place.Entry p) = C12
-clause_of (place.SymbolLine p) = C13
-clause_of (place.NoSymbolLine name p) = C13
-clause_of (place.Table p) = C14
+clause_of (place.Entry e_entry value) = C12
+clause_of (place.Symtab there) = C14
+clause_of (place.TableByte b) = C14
 clause_of (place.Whole c) = c
 
 abbrev pub AreFailures : Subject → List CheckPlace → Type 0

@@ -126,9 +126,6 @@ pub fn explain_check<'a>(
     let mut seen = Seen { alloc, found };
     match judge(alloc, link, None, &mut seen)? {
         Verdict::Yes => Ok(Found::new(alloc, most)),
-        Verdict::No(clause) => {
-            let told = seen.found.of_clause(alloc, clause, most)?;
-            told.or_clause(clause)
-        }
+        Verdict::No(clause) => seen.found.of_clause(clause, most),
     }
 }

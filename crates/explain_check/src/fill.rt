@@ -8,9 +8,10 @@ ghost use Rattle.elf_model.specs.Image.RightLink.{IsInFilePart, fill_of};
 ghost use Rattle.loader_model.specs.Rights as loader;
 ghost use Rattle.explain_check.specs.Places.{AreFailures, FailsIn};
 
-use crate::bytes::byte_of;
-use crate::found::{Added, Found, Judge, add_all, add_sure};
-use crate::place::{CheckPlace, Failure, FillPlace};
+use crate::bytes::{byte_of, wrong_byte};
+use crate::found::{Added, Found};
+use crate::numbers::wrong_number;
+use crate::place::{ByteOf, CheckPlace, Failure, NumberName};
 use crate::segments::{ends_of, wrong_end};
 use check_stages::file_end;
 use checker::BoundLink;
@@ -46,34 +47,21 @@ fn fill_of(rights: u64) -> u8
     if rights == 5 { 0x90 } else { 0 }
 }
 
-/// What memory has at an address: a byte and its rights.
-fn cell_at(memory: &Memory<'_>, address: u64) -> Option<(u8, u64)>
-    ensures { IfSome result (λ c. memory_of memory.now address
-        ≡ Some (record { byte = c.0; rights = c.1 })) }
-{
-    let byte = memory.byte(address)?;
-    let rights = memory.rights(address)?;
-    Some((byte, rights_sum(rights)))
-}
-
 /// An address that is mapped and lies in no thing, where its byte isn't fill.
 fn wrong_fill<'a>(bound: &BoundLink<'_, 'a>, address: u64) -> Failure<'a>
     ensures { IfSome result (FailsIn bound.now) }
 {
-    let cell = cell_at(bound.memory(), address)?;
-    let wanted = fill_of(cell.1);
-    if cell.0 == wanted {
-        return None;
-    }
+    let rights = rights_sum(bound.memory().rights(address)?);
     if !is_outside(bound.things(), address) {
         return None;
     }
-    Some(CheckPlace::Fill(FillPlace {
+    wrong_byte(
+        bound,
+        ByteOf::Fill(rights),
         address,
-        byte: cell.0,
-        rights: cell.1,
-        wanted,
-    }))
+        address,
+        fill_of(rights),
+    )
 }
 
 /// The first address from one on and below another, all of one segment, whose byte isn't fill.
@@ -86,17 +74,19 @@ fn first_unfilled(memory: &Memory<'_>, from: u64, to: u64, fill: u8) -> Option<u
     }
 }
 
-/// Adds a number to a list, where there is one.
-fn push_some(list: &mut Vec<u64>, number: Option<u64>) -> Added {
-    if let Some(number) = number {
-        list.push(number)?;
-    }
-    Ok(())
+/// What may be wrong: where a PT_LOAD ends, by its number, or where its file part does, and where it should; the length of the
+/// file; its byte at an offset; and that of memory at an address.
+#[derive(Clone, Copy)]
+enum Suspect {
+    End(usize, bool, u64),
+    Length,
+    Offset(u64),
+    Address(u64),
 }
 
 /// Adds the bytes that aren't fill between the things, which stand by address, of a segment, the first of each gap.
 fn push_gaps(
-    gaps: &mut Vec<u64>,
+    suspects: &mut Vec<Suspect>,
     memory: &Memory<'_>,
     sorted: &[Thing],
     segment: &ProgramHeader,
@@ -105,22 +95,17 @@ fn push_gaps(
 {
     let fill = fill_of(segment.p_flags as u64);
     let top = segment.p_vaddr.saturating_add(segment.p_memsz);
+    let things = begun_between(sorted, segment.p_vaddr, top);
     let mut from = segment.p_vaddr;
-    for thing in begun_between(sorted, segment.p_vaddr, top) {
-        push_some(gaps, first_unfilled(memory, from, thing.at, fill))?;
-        from = from.max(thing.at.saturating_add(thing.size));
+    for i in 0..=things.len() {
+        let next = things.get(i).copied();
+        let to = next.map_or(top, |t| t.at);
+        if let Some(address) = first_unfilled(memory, from, to, fill) {
+            suspects.push(Suspect::Address(address))?;
+        }
+        from = from.max(next.map_or(top, |t| t.at.saturating_add(t.size)));
     }
-    push_some(gaps, first_unfilled(memory, from, top, fill))
-}
-
-/// The addresses of the bytes of memory between things that aren't fill, the first of each gap.
-fn gaps_of_memory(alloc: Global, bound: &BoundLink<'_, '_>) -> Result<Vec<u64>, AllocError> {
-    let sorted = bound.things_by_address();
-    let mut gaps = Vec::new(alloc);
-    for segment in bound.memory().segments() {
-        push_gaps(&mut gaps, bound.memory(), sorted, segment)?;
-    }
-    Ok(gaps)
+    Ok(())
 }
 
 /// Whether an offset lies in no file part.
@@ -147,80 +132,63 @@ fn wrong_gap<'a>(bound: &BoundLink<'_, 'a>, i: u64) -> Failure<'a>
     Some(CheckPlace::Gap(i, byte))
 }
 
-/// The offsets of the bytes of the file between its parts that aren't 0, the first of each gap.
-fn gaps_of_file(alloc: Global, memory: &Memory<'_>) -> Result<Vec<u64>, AllocError> {
-    let mut gaps = Vec::new(alloc);
+/// Adds the bytes of the file between its parts that aren't 0, the first of each gap.
+fn push_file_gaps(suspects: &mut Vec<Suspect>, memory: &Memory<'_>) -> Added {
     let mut from = 0;
     for segment in memory.segments() {
         if segment.p_filesz == 0 {
             continue;
         }
-        let gap = (from..segment.p_offset).find(|i| byte_of(memory.image(), *i) != 0);
-        push_some(&mut gaps, gap)?;
+        let mut gap = from..segment.p_offset;
+        if let Some(i) = gap.find(|i| byte_of(memory.image(), *i) != 0) {
+            suspects.push(Suspect::Offset(i))?;
+        }
         from = from.max(segment.p_offset.saturating_add(segment.p_filesz));
     }
-    Ok(gaps)
+    Ok(())
 }
 
-/// A file that doesn't end with its last part, where the map has no line of a symbol table.
-fn wrong_length<'a>(bound: &BoundLink<'_, 'a>) -> Failure<'a>
+/// What may be wrong with where segments and the file end, and with what lies in no segment and in no thing.
+fn suspects_of(alloc: Global, bound: &BoundLink<'_, '_>) -> Result<Vec<Suspect>, AllocError> {
+    let memory = bound.memory();
+    let mut suspects = Vec::new(alloc);
+    for (number, in_file, end) in &ends_of(alloc, bound)? {
+        suspects.push(Suspect::End(*number, *in_file, *end))?;
+    }
+    suspects.push(Suspect::Length)?;
+    push_file_gaps(&mut suspects, memory)?;
+    for segment in memory.segments() {
+        push_gaps(&mut suspects, memory, bound.things_by_address(), segment)?;
+    }
+    Ok(suspects)
+}
+
+/// What is wrong with a suspect.
+fn wrong_suspect<'a>(bound: &BoundLink<'_, 'a>, suspect: Suspect) -> Failure<'a>
     ensures { IfSome result (FailsIn bound.now) }
 {
-    let memory = bound.memory();
-    let (len, end) = (memory.image().len() as u64, file_end(memory));
-    match bound.link().map.symtab {
-        None if len != end => Some(CheckPlace::Length(len, end)),
-        _ => None,
+    match suspect {
+        Suspect::End(number, in_file, end) => wrong_end(bound, number, in_file, end),
+        Suspect::Length => match bound.link().map.symtab {
+            Some(_) => None,
+            None => wrong_number(bound, NumberName::Length, file_end(bound.memory())),
+        },
+        Suspect::Offset(i) => wrong_gap(bound, i),
+        Suspect::Address(address) => wrong_fill(bound, address),
     }
 }
 
-/// A link with the ends of PT_LOADs, the offsets and the addresses at which it may be wrong.
-#[derive(Drop)]
-struct Gaps<'b, 'o, 'a> {
-    bound: &'b BoundLink<'o, 'a>,
-    ends: Vec<(usize, bool)>,
-    offsets: Vec<u64>,
-    addresses: Vec<u64>,
-}
-
-/// What is judged: these, and the length of the file.
-#[derive(Clone, Copy)]
-enum Kind {
-    End,
-    Length,
-    Offset,
-    Address,
-}
-
-impl<'a> Judge<'a, Kind> for Gaps<'_, '_, 'a> {
-    ghost subject = { λ g. g.bound.now };
-
-    fn judge(&self, kind: Kind, k: usize) -> Failure<'a> {
-        match kind {
-            Kind::End => {
-                let (number, in_file) = self.ends.get(k).copied()?;
-                wrong_end(self.bound, number, in_file)
-            }
-            Kind::Length => wrong_length(self.bound),
-            Kind::Offset => wrong_gap(self.bound, self.offsets.get(k).copied()?),
-            Kind::Address => wrong_fill(self.bound, self.addresses.get(k).copied()?),
-        }
-    }
-}
-
-/// Adds where the eleventh clause fails.
+/// Adds where the eleventh clause fails. Once as many places are kept as may be, what may be wrong is only counted.
 pub fn add_c11<'a>(alloc: Global, found: &mut Found<'a>, bound: &BoundLink<'_, 'a>) -> Added
     requires { AreFailures bound.now found.old.places.items }
     ensures { OnOk result (AreFailures bound.now found.new.places.items) }
 {
-    let gaps = Gaps {
-        bound,
-        ends: ends_of(alloc, bound)?,
-        offsets: gaps_of_file(alloc, bound.memory())?,
-        addresses: gaps_of_memory(alloc, bound)?,
-    };
-    add_sure(found, &gaps, Kind::End, gaps.ends.len())?;
-    add_all(found, &gaps, Kind::Length, 1)?;
-    add_sure(found, &gaps, Kind::Offset, gaps.offsets.len())?;
-    add_sure(found, &gaps, Kind::Address, gaps.addresses.len())
+    for suspect in &suspects_of(alloc, bound)? {
+        if found.is_full() {
+            found.count();
+            continue;
+        }
+        found.add_some(wrong_suspect(bound, *suspect))?;
+    }
+    Ok(())
 }

@@ -1,51 +1,64 @@
 //! The places that were found so far: the first of them, and how many more there are.
-ghost use Rattle.std.specs.Prelude.{◌≡◌, ◌<◌, ◌≤◌, [], All, IfOk, IfSome, OnErr, OnOk, length};
+ghost use Rattle.std.specs.Prelude.{◌≡◌, ◌<◌, ◌≤◌, [], All, IfOk, IfSome, IsTrue, OnErr, OnOk, length};
 ghost use Rattle.elf_model.specs.Image.MapText.{IsMap};
 ghost use Rattle.elf_model.specs.Image.RightLink.{Holds, Subject};
 ghost use Rattle.elf_model.specs.declared.verdict.Clause as verdict;
-ghost use Rattle.explain_check.specs.Places.{AreFailures, FailsIn, IsOf, clause_of};
+ghost use Rattle.explain_check.specs.Places.{AreFailures, FailsIn, IsOf, clause_of, clause_of_byte, clause_of_number};
 
-use crate::place::{CheckPlace, Failure};
+use crate::place::{ByteOf, CheckPlace, Failure, LineKey, NumberName};
 use elf_model::Clause;
 use std::alloc::{AllocError, Global};
+
+/// The clause that determines a number.
+fn clause_of_number(name: NumberName) -> Clause
+    ensures { result ≡ clause_of_number name }
+{
+    match name {
+        NumberName::GotSize | NumberName::SlotAddress(_) => Clause::C7,
+        NumberName::Length => Clause::C11,
+        NumberName::TableOffset
+        | NumberName::TableCount
+        | NumberName::HeadersOffset
+        | NumberName::HeadersCount
+        | NumberName::NamesSection => Clause::C14,
+    }
+}
+
+/// The clause that says which byte is wanted.
+fn clause_of_byte(of: &ByteOf<'_>) -> Clause
+    ensures { result ≡ clause_of_byte of.now }
+{
+    match of {
+        ByteOf::Got(_) => Clause::C7,
+        ByteOf::Piece(_, _, _) => Clause::C10,
+        ByteOf::Fill(_) => Clause::C11,
+    }
+}
 
 /// The clause of the kind of a place.
 pub fn kind_of(place: &CheckPlace<'_>) -> Clause
     ensures { result ≡ clause_of place.now }
 {
     match place {
-        CheckPlace::ObjectLine(_) => Clause::C2,
-        CheckPlace::DropLine(_) | CheckPlace::PlaceLine(_) | CheckPlace::CommonLine(_) => {
-            Clause::C3
-        }
+        CheckPlace::Line(LineKey::Object(_), _) => Clause::C2,
+        CheckPlace::Line(LineKey::Symbol(_), _) => Clause::C13,
+        CheckPlace::Line(_, _) => Clause::C3,
         CheckPlace::Unaligned(_)
-        | CheckPlace::Outside(_, _)
+        | CheckPlace::Outside(_)
         | CheckPlace::Shared(_, _)
-        | CheckPlace::Far(_) => Clause::C5,
-        CheckPlace::Unheld(_, _) | CheckPlace::First(_, _) => Clause::C6,
-        CheckPlace::Got(_)
-        | CheckPlace::UnaskedSlot(_, _)
-        | CheckPlace::RepeatedSlot(_, _, _)
-        | CheckPlace::NoSlot(_, _)
-        | CheckPlace::GotSize(_, _)
-        | CheckPlace::SlotAddress(_, _, _)
-        | CheckPlace::GotByte(_) => Clause::C7,
+        | CheckPlace::Far(_, _) => Clause::C5,
+        CheckPlace::Unheld(_, _) | CheckPlace::First(_) => Clause::C6,
+        CheckPlace::Got(_) | CheckPlace::SlotLine(_, _, _) | CheckPlace::NoSlot(_, _) => Clause::C7,
         CheckPlace::ThreadHeader(_, _)
-        | CheckPlace::ThreadZeros(_, _, _)
-        | CheckPlace::GotInThreadBlock(_, _, _)
-        | CheckPlace::PieceInThreadBlock(_, _, _, _)
+        | CheckPlace::InThreadBlock(_, _, _, _)
         | CheckPlace::ThreadBytes(_) => Clause::C8,
         CheckPlace::Relocation(_, _) | CheckPlace::Overlap(_, _) | CheckPlace::Value(_, _, _) =>
             Clause::C9,
-        CheckPlace::Byte(_) => Clause::C10,
-        CheckPlace::Fill(_)
-        | CheckPlace::EmptySegment(_)
-        | CheckPlace::SegmentEnd(_, _, _)
-        | CheckPlace::Gap(_, _)
-        | CheckPlace::Length(_, _) => Clause::C11,
-        CheckPlace::Entry(_) => Clause::C12,
-        CheckPlace::SymbolLine(_) | CheckPlace::NoSymbolLine(_, _) => Clause::C13,
-        CheckPlace::Table(_) => Clause::C14,
+        CheckPlace::SegmentEnd(_, _, _) | CheckPlace::Gap(_, _) => Clause::C11,
+        CheckPlace::Number(name, _, _) => clause_of_number(*name),
+        CheckPlace::Byte(place) => clause_of_byte(&place.of),
+        CheckPlace::Entry(_, _) => Clause::C12,
+        CheckPlace::Symtab(_) | CheckPlace::TableByte(_) => Clause::C14,
         CheckPlace::Whole(clause) => *clause,
     }
 }
@@ -60,6 +73,13 @@ pub fn clause_of(place: &CheckPlace<'_>) -> Clause
 
 /// Whether there was memory for what was to be added.
 pub(crate) type Added = Result<(), AllocError>;
+
+/// Whether places are all of a clause.
+fn are_of(places: &[CheckPlace<'_>], clause: Clause) -> bool
+    ensures { IsTrue result → All (λ p. clause_of p ≡ clause) places.now }
+{
+    places.iter().all(|p| kind_of(p) == clause)
+}
 
 /// The first places that were found, and how many more.
 #[derive(Drop)]
@@ -117,57 +137,34 @@ impl<'a> Found<'a> {
         }
     }
 
-    /// Takes in a place, where it is of a clause.
-    fn add_of(&mut self, place: CheckPlace<'a>, clause: Clause) -> Added
-        requires { length self.old.places.items ≤ self.old.most }
-        ensures of { (s : Subject) →
-            All (IsOf s clause) self.old.places.items → FailsIn s place.entry
-            → OnOk result (All (IsOf s clause) self.new.places.items) }
-        ensures most { OnOk result (self.new.most ≡ self.old.most) }
-        ensures few { OnOk result (length self.new.places.items ≤ self.new.most) }
+    /// Takes in the place of a row, where there is one, and answers whether the rows behind it are to be looked at: not where
+    /// it is wrong and there aren't as many rows as there should be, since they then differ only because they are shifted.
+    pub(crate) fn add_row(&mut self, place: Failure<'a>, as_many: bool) -> Result<bool, AllocError>
+        ensures { (s : Subject) →
+            AreFailures s self.old.places.items → IfSome place.entry (FailsIn s) →
+            OnOk result (AreFailures s self.new.places.items) }
     {
-        if kind_of(&place) != clause {
-            return Ok(());
-        }
-        self.add(place)
+        let more = as_many || place.is_none();
+        self.add_some(place)?;
+        Ok(more)
     }
 
-    /// The places that are of a clause, at most so many.
-    pub fn of_clause(
-        self,
-        alloc: Global,
-        clause: Clause,
-        most: usize,
-    ) -> Result<Found<'a>, AllocError>
+    /// The places, if all are of a clause, at most so many; where there are none, the clause as a whole.
+    pub(crate) fn of_clause(self, clause: Clause, most: usize) -> Result<Found<'a>, AllocError>
         ensures of { (s : Subject) →
-            AreFailures s self.entry.places.items
+            AreFailures s self.entry.places.items → (¬ Holds clause s)
             → IfOk result (λ f. All (IsOf s clause) f.places.items) }
-        ensures most { IfOk result (λ f. f.most ≡ most) }
         ensures few { IfOk result (λ f. length f.places.items ≤ most) }
+        ensures some { IfOk result (λ f. 0 < most → 0 < length f.places.items) }
     {
-        let Found { places, more, .. } = self;
-        let mut kept = Found::new(alloc, most);
-        kept.more = more;
-        for i in 0..places.len() {
-            kept.add_of(places[i], clause)?;
-        }
-        Ok(kept)
-    }
-
-    /// Takes in a clause as a whole, where no place of it was found.
-    pub fn or_clause(self, clause: Clause) -> Result<Found<'a>, AllocError>
-        requires { length self.places.items ≤ self.most }
-        ensures of { (s : Subject) →
-            All (IsOf s clause) self.entry.places.items → (¬ Holds clause s)
-            → IfOk result (λ f. All (IsOf s clause) f.places.items) }
-        ensures few { IfOk result (λ f. length f.places.items ≤ self.entry.most) }
-        ensures some { IfOk result (λ f. 0 < self.entry.most → 0 < length f.places.items) }
-    {
-        if !self.places.is_empty() || self.most == 0 {
-            return Ok(self);
-        }
         let mut found = self;
-        found.add(CheckPlace::Whole(clause))?;
+        found.places.truncate(most);
+        if !are_of(&found.places, clause) {
+            found.places.clear();
+        }
+        if found.places.is_empty() && most > 0 {
+            found.places.push(CheckPlace::Whole(clause))?;
+        }
         Ok(found)
     }
 
@@ -216,48 +213,7 @@ pub(crate) fn add_all<'a, K: Copy, J: Judge<'a, K>>(
     requires { AreFailures (J.subject judge.now) found.old.places.items }
     ensures { OnOk result (AreFailures (J.subject judge.now) found.new.places.items) }
 {
-    add_rows(found, judge, kind, count, count)
-}
-
-/// Adds the places of rows of which so many are told and so many are wanted: all where there are as many, else the first one,
-/// since those after it differ only because they are shifted.
-pub(crate) fn add_rows<'a, K: Copy, J: Judge<'a, K>>(
-    found: &mut Found<'a>,
-    judge: &J,
-    kind: K,
-    told: usize,
-    wanted: usize,
-) -> Added
-    requires { AreFailures (J.subject judge.now) found.old.places.items }
-    ensures { OnOk result (AreFailures (J.subject judge.now) found.new.places.items) }
-{
-    for number in 0..told.max(wanted) {
-        let place = judge.judge(kind, number);
-        let last = place.is_some() && told != wanted;
-        found.add_some(place)?;
-        if last {
-            break;
-        }
-    }
-    Ok(())
-}
-
-/// Adds the places of the first so many things of a kind, which seem to be wrong: once as many places are kept as may be, it
-/// only counts them.
-pub(crate) fn add_sure<'a, K: Copy, J: Judge<'a, K>>(
-    found: &mut Found<'a>,
-    judge: &J,
-    kind: K,
-    count: usize,
-) -> Added
-    requires { AreFailures (J.subject judge.now) found.old.places.items }
-    ensures { OnOk result (AreFailures (J.subject judge.now) found.new.places.items) }
-{
     for number in 0..count {
-        if found.is_full() {
-            found.more = found.more.saturating_add((count - number) as u64);
-            return Ok(());
-        }
         found.add_some(judge.judge(kind, number))?;
     }
     Ok(())

@@ -10,15 +10,13 @@ mod got;
 mod lines;
 mod map_text;
 mod memory_text;
-mod parts;
+mod numbers;
 mod place;
 mod placement;
 mod relocation_places;
 mod relocations;
 mod segments;
 mod symbol_lines;
-mod table_bytes;
-mod table_text;
 mod tables;
 mod text;
 mod thread_block;
@@ -26,8 +24,6 @@ mod thread_block;
 pub use explain::{explain_check, read_link};
 pub use found::{Found, clause_of};
 pub use place::{
-    BytePlace, CheckPlace, CommonLinePlace, DropLinePlace, EntryPlace, FillPlace, GotBytePlace,
-    MeaningPlace, Neighbours, ObjectAt, ObjectLinePlace, Part, PartName, PlaceLinePlace,
-    SegmentPlace, SymbolLinePlace, TableByte, TableEntry, TablePlace,
+    ByteOf, BytePlace, CheckPlace, LineKey, NumberName, Part, SegmentPlace, TableByte, TableEntry,
 };
 pub use text::write_check_place;

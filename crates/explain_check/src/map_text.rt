@@ -1,13 +1,10 @@
 //! How lines of the map read: as the map spells them, with the number of the line.
 
-use crate::place::{
-    CheckPlace, CommonLinePlace, DropLinePlace, MeaningPlace, ObjectAt, ObjectLinePlace,
-    PlaceLinePlace, SymbolLinePlace,
-};
+use crate::place::LineKey;
 use crate::text::Told;
-use check_link::{Link, Meaning};
-use elf_model::{Definition, DropLine, STB_WEAK};
-use input_names::Name;
+use check_link::Link;
+use linkmap::{Line, put_line};
+use std::alloc::Global;
 use std::fmt;
 use std::io::Write;
 
@@ -17,6 +14,7 @@ pub enum Kind {
     Object,
     Drop,
     Place,
+    Common,
     Slot,
     Symbol,
 }
@@ -33,6 +31,7 @@ pub fn line_number(link: &Link<'_>, kind: Kind, number: u64) -> u64 {
         Kind::Object => 0,
         Kind::Drop => objects,
         Kind::Place => drops,
+        Kind::Common => places,
         Kind::Slot => slots,
         Kind::Symbol => slots.saturating_add(map.slots.len()),
     };
@@ -50,149 +49,79 @@ impl fmt::Display for MapLine<'_> {
     }
 }
 
-/// A symbol line as a map has it.
-#[derive(Clone, Copy)]
-struct Line<'n> {
-    address: u64,
-    definition: Definition,
-    name: &'n [u8],
-}
-
-impl fmt::Display for Line<'_> {
-    fn fmt<W: fmt::Write>(&self, f: &mut fmt::Formatter<W>) -> fmt::Result {
-        write!(f, "symbol {:016x} ", self.address)?;
-        match self.definition {
-            Definition::Strong { object, symbol } => write!(f, "strong {object} {symbol}"),
-            Definition::Weak { object, symbol } => write!(f, "weak {object} {symbol}"),
-            Definition::Common => f.write_str("common"),
-            Definition::Linker => f.write_str("linker"),
-        }?;
-        write!(f, " {}", Name(self.name))
-    }
-}
-
-fn definition_of(meaning: &Meaning<'_>) -> Definition {
-    match meaning {
-        Meaning::Common(_) => Definition::Common,
-        Meaning::Linker(_, _) => Definition::Linker,
-        Meaning::Symbol(definition) => {
-            let (object, symbol) = (definition.object, definition.number);
-            match definition.entry.binding() {
-                STB_WEAK => Definition::Weak { object, symbol },
-                _ => Definition::Strong { object, symbol },
-            }
+/// The number of the line that a map has for a key, if it has one.
+fn number_of(link: &Link<'_>, key: &LineKey<'_>) -> Option<u64> {
+    let map = &link.map;
+    let (kind, number, count) = match key {
+        LineKey::Object(number) => (Kind::Object, *number, map.objects.len()),
+        LineKey::Drop(number) => (Kind::Drop, *number, map.drops.len()),
+        LineKey::Place(number) => (Kind::Place, *number, map.places.len()),
+        LineKey::Common(name) => {
+            let number = map
+                .commons
+                .iter()
+                .position(|line| line.name.as_slice() == *name)?;
+            (Kind::Common, number as u64, map.commons.len())
         }
-    }
-}
-
-/// The symbol line of what a name means.
-fn wanted_line<'n>(name: &'n [u8], wanted: &MeaningPlace<'_>) -> Line<'n> {
-    Line {
-        address: wanted.value,
-        definition: definition_of(&wanted.meaning),
-        name,
-    }
-}
-
-/// Writes a symbol line that is another one than its name asks for.
-fn write_symbol<W: Write>(out: &mut W, link: &Link<'_>, place: &SymbolLinePlace<'_>) -> Told {
-    let line = place.line;
-    let there = Line {
-        address: line.address,
-        definition: line.definition,
-        name: &line.name,
-    };
-    let line = MapLine(link, Kind::Symbol, place.number);
-    write!(out, "{line}: {there}: ")?;
-    match &place.wanted {
-        Some(wanted) => write!(out, "should be {}", wanted_line(there.name, wanted)),
-        None => out.write_all(b"the name has no line"),
-    }
-}
-
-const NO_LINE: &str = "the map lacks:";
-
-const NO_PLACE: &str = "the map lacks a place line that ends";
-
-const NO_COMMON: &str = "the map lacks a common line that ends";
-
-/// What stands before what a line should say: one text where a line is there, another one where none is.
-fn lead(is_there: bool, there: &'static str, none: &'static str) -> &'static str {
-    if is_there { there } else { none }
-}
-
-/// Writes an object line that is another one than it should be.
-fn write_object<W: Write>(out: &mut W, link: &Link<'_>, place: &ObjectLinePlace<'_>) -> Told {
-    if let Some(line) = place.line {
-        let number = MapLine(link, Kind::Object, place.number);
-        let (object, item, offset) = (line.object, line.item, line.offset);
-        write!(out, "{number}: object {object} {item} {offset} ")?;
-        write!(out, "{}: ", Name(&line.path))?;
-    }
-    let Some(ObjectAt { item, offset, path }) = &place.wanted else {
-        return out.write_all(b"no more objects are loaded");
-    };
-    let (number, path) = (place.number, Name(path.as_bytes()));
-    let words = lead(place.line.is_some(), "should be", NO_LINE);
-    write!(out, "{words} object {number} {item} {offset} {path}")
-}
-
-/// Writes a drop line that is another one than it should be.
-fn write_drop<W: Write>(out: &mut W, link: &Link<'_>, place: &DropLinePlace) -> Told {
-    if let Some(DropLine { object, section }) = &place.line {
-        let number = MapLine(link, Kind::Drop, place.number);
-        write!(out, "{number}: drop {object} {section}: ")?;
-    }
-    let Some(DropLine { object, section }) = &place.wanted else {
-        return out.write_all(b"no more sections are dropped");
-    };
-    let words = lead(place.line.is_some(), "should be", NO_LINE);
-    write!(out, "{words} drop {object} {section}")
-}
-
-/// Writes a place line that is another one than it should be.
-fn write_place<W: Write>(out: &mut W, link: &Link<'_>, place: &PlaceLinePlace<'_>) -> Told {
-    if let Some(line) = place.line {
-        let number = MapLine(link, Kind::Place, place.number);
-        let (address, size, object) = (line.address, line.size, line.object);
-        write!(out, "{number}: place {address:016x} {size} {object} ")?;
-        write!(out, "{} {}: ", line.section, Name(&line.name))?;
-    }
-    let Some(piece) = &place.wanted else {
-        return out.write_all(b"no more sections are kept");
-    };
-    let words = lead(place.line.is_some(), "should end", NO_PLACE);
-    let (size, object, section) = (piece.header.sh_size, piece.object, piece.section);
-    write!(out, "{words} with {size} {object} {section} ")?;
-    write!(out, "{}", Name(piece.name))
-}
-
-/// Writes a common line that is another one than it should be.
-fn write_common<W: Write>(out: &mut W, place: &CommonLinePlace<'_>) -> Told {
-    if let Some(line) = place.line {
-        let (address, size, align) = (line.address, line.size, line.align);
-        write!(out, "the map's line common {address:016x} {size} {align} ")?;
-        write!(out, "{}: ", Name(&line.name))?;
-    }
-    let Some(block) = &place.block else {
-        return out.write_all(b"the name has no common block");
-    };
-    let words = lead(place.line.is_some(), "should end", NO_COMMON);
-    let (size, align, name) = (block.size, block.align.max(1), Name(block.name));
-    write!(out, "{words} with {size} {align} {name}")
-}
-
-/// Writes a place of the second, the third or the thirteenth clause.
-pub fn write_line<W: Write>(out: &mut W, link: &Link<'_>, place: &CheckPlace<'_>) -> Told {
-    match place {
-        CheckPlace::ObjectLine(place) => write_object(out, link, place),
-        CheckPlace::DropLine(place) => write_drop(out, link, place),
-        CheckPlace::PlaceLine(place) => write_place(out, link, place),
-        CheckPlace::CommonLine(place) => write_common(out, place),
-        CheckPlace::SymbolLine(place) => write_symbol(out, link, place),
-        CheckPlace::NoSymbolLine(name, wanted) => {
-            write!(out, "the map lacks: {}", wanted_line(name, wanted))
+        LineKey::Symbol(name) => {
+            let number = map
+                .symbols
+                .iter()
+                .position(|line| line.name.as_slice() == *name)?;
+            (Kind::Symbol, number as u64, map.symbols.len())
         }
+    };
+    (number < count as u64).then_some(line_number(link, kind, number))
+}
+
+/// Writes the line of a map's text that has a number, if one is there.
+fn write_told<W: Write>(out: &mut W, text: &[u8], number: u64) -> Told {
+    let mut lines = text.split(|byte| *byte == b'\n');
+    let line = lines.nth(number.saturating_sub(1) as usize).unwrap_or(&[]);
+    write!(out, "line {number} of the map: ")?;
+    out.write_all(line)?;
+    out.write_all(b": ")
+}
+
+/// Why a map should have no line for a key.
+fn reason_against(key: &LineKey<'_>) -> &'static str {
+    match key {
+        LineKey::Object(_) => "no more objects are loaded",
+        LineKey::Drop(_) => "no more sections are dropped",
+        LineKey::Place(_) => "no more sections are kept",
+        LineKey::Common(_) => "the name has no common block",
+        LineKey::Symbol(_) => "the name has no line",
+    }
+}
+
+/// Writes a line of a map with this text that is another one than it should be, or that should be there or shouldn't.
+pub fn write_line<W: Write>(
+    alloc: Global,
+    out: &mut W,
+    link: &Link<'_>,
+    text: &[u8],
+    key: &LineKey<'_>,
+    wanted: &Option<Line<'_>>,
+) -> Told {
+    let number = number_of(link, key);
+    if let Some(number) = number {
+        write_told(out, text, number)?;
+    }
+    let Some(line) = wanted else {
+        return out.write_all(reason_against(key).as_bytes());
+    };
+    let lead = if number.is_some() {
+        "should be "
+    } else {
+        "the map lacks: "
+    };
+    let mut spelled = Vec::new(alloc);
+    put_line(&mut spelled, line)?;
+    spelled.pop();
+    out.write_all(lead.as_bytes())?;
+    out.write_all(&spelled)?;
+    match key {
+        LineKey::Place(_) | LineKey::Common(_) => out.write_all(b", at any address"),
         _ => Ok(()),
     }
 }

@@ -2,9 +2,11 @@
 //! what is there and what should be.
 
 use crate::map_text::{Kind, MapLine, line_number};
-use crate::place::{BytePlace, CheckPlace, SegmentPlace};
-use crate::text::{ObjectText, PieceText, Told, rights_text};
-use check_link::Link;
+use crate::place::{
+    ByteOf, BytePlace, CheckPlace, NumberName, SegmentPlace, TableByte, TableEntry,
+};
+use crate::text::{ObjectText, PieceOrGot, PieceText, Told, rights_text};
+use check_link::{Link, Placed};
 use elf_model::ProgramHeader;
 use input_names::{FaultOf, Name, RelocationEntry, RelocationPlace, RelocationSymbol};
 use std::fmt;
@@ -22,18 +24,21 @@ fn write_entry<W: Write>(out: &mut W, link: &Link<'_>, place: &RelocationPlace<'
     write!(out, "{}", RelocationEntry(place, true))
 }
 
-/// An address, the byte that memory has there, and the one that it should have.
+/// The byte that is there, or that there is none, and the one that should be.
 #[derive(Clone, Copy)]
-struct ByteText(u64, Option<u8>, u8);
+struct ByteText(Option<u8>, &'static str, Option<u8>);
 
 impl fmt::Display for ByteText {
     fn fmt<W: fmt::Write>(&self, f: &mut fmt::Formatter<W>) -> fmt::Result {
-        write!(f, "at {:#x} is ", self.0)?;
-        match self.1 {
-            Some(byte) => write!(f, "{byte:#04x}"),
-            None => f.write_str("not mapped"),
+        let ByteText(there, none, wanted) = *self;
+        match there {
+            Some(byte) => write!(f, "is {byte:#04x}"),
+            None => write!(f, "is {none}"),
         }?;
-        write!(f, ", and should be {:#04x}", self.2)
+        match wanted {
+            Some(byte) => write!(f, ", and should be {byte:#04x}"),
+            None => write!(f, ", and should be {none}"),
+        }
     }
 }
 
@@ -45,8 +50,14 @@ fn write_end<W: Write>(out: &mut W, place: &SegmentPlace, in_file: bool, wanted:
         false => ("memory", h.p_memsz),
     };
     let (at, end) = (h.p_vaddr, h.p_vaddr.saturating_add(size));
-    write!(out, "segment {} at {at:#x}: its {part} ", place.number)?;
-    write!(out, "ends at {end:#x}, and should end at {wanted:#x}")
+    write!(out, "segment {} at {at:#x}: ", place.number)?;
+    if wanted == at && !in_file {
+        return out.write_all(b"nothing is in it");
+    }
+    write!(
+        out,
+        "its {part} ends at {end:#x}, and should end at {wanted:#x}"
+    )
 }
 
 /// A PT_TLS header, if there is one.
@@ -65,31 +76,6 @@ impl fmt::Display for HeaderText<'_> {
     }
 }
 
-/// Writes what is wrong with a slot of the GOT, or with its line.
-fn write_slot<W: Write>(out: &mut W, link: &Link<'_>, place: &CheckPlace<'_>) -> Told {
-    match place {
-        CheckPlace::UnaskedSlot(number, _) => {
-            let line = MapLine(link, Kind::Slot, *number);
-            write!(out, "{line}: no relocation asks for this slot")
-        }
-        CheckPlace::RepeatedSlot(first, number, _) => {
-            let line = MapLine(link, Kind::Slot, *number);
-            let first = line_number(link, Kind::Slot, *first);
-            write!(out, "{line}: the slot of line {first} again")
-        }
-        CheckPlace::NoSlot(place, _) => {
-            write_entry(out, link, place)?;
-            out.write_all(b": no line of the map has its slot")
-        }
-        CheckPlace::SlotAddress(number, there, wanted) => {
-            let line = MapLine(link, Kind::Slot, *number);
-            write!(out, "{line}: the slot at {there:#x} ")?;
-            write!(out, "should be at {wanted:#x}")
-        }
-        _ => Ok(()),
-    }
-}
-
 /// Writes a place of the seventh clause.
 pub fn write_got<W: Write>(out: &mut W, link: &Link<'_>, place: &CheckPlace<'_>) -> Told {
     match place {
@@ -97,24 +83,22 @@ pub fn write_got<W: Write>(out: &mut W, link: &Link<'_>, place: &CheckPlace<'_>)
         CheckPlace::Got(false) => {
             out.write_all(b"the map has no GOT, and a relocation asks for one")
         }
-        CheckPlace::GotSize(got, wanted) => {
-            let (at, size) = (got.address, got.size);
-            write!(out, "the GOT at {at:#x} has {size:#x} bytes, ")?;
-            write!(out, "and should have {wanted:#x}")
+        CheckPlace::SlotLine(number, first, _) => {
+            write!(out, "{}: ", MapLine(link, Kind::Slot, *number))?;
+            match first {
+                Some(first) => {
+                    let first = line_number(link, Kind::Slot, *first);
+                    write!(out, "the slot of line {first} again")
+                }
+                None => out.write_all(b"no relocation asks for this slot"),
+            }
         }
-        CheckPlace::GotByte(place) => {
-            let address = place.got.address.saturating_add(place.offset);
-            let byte = ByteText(address, place.there, place.wanted);
-            write!(out, "the GOT: byte {:#x} {byte}", place.offset)
+        CheckPlace::NoSlot(place, _) => {
+            write_entry(out, link, place)?;
+            out.write_all(b": no line of the map has its slot")
         }
-        _ => write_slot(out, link, place),
+        _ => Ok(()),
     }
-}
-
-/// Writes that something has an address among the initial bytes of thread-local storage.
-fn write_inner<W: Write>(out: &mut W, start: u64, end: u64) -> Told {
-    out.write_all(b" is among the thread-local bytes, ")?;
-    write!(out, "from {start:#x} to {end:#x}")
 }
 
 /// Writes a place of the eighth clause.
@@ -124,20 +108,12 @@ pub fn write_thread<W: Write>(out: &mut W, link: &Link<'_>, place: &CheckPlace<'
             let (there, wanted) = (HeaderText(there), HeaderText(wanted));
             write!(out, "PT_TLS: {there}; it should be: {wanted}")
         }
-        CheckPlace::ThreadZeros(_, placed, end) => {
-            write!(out, "{} at {:#x}", PieceText(link, placed), placed.at)?;
+        CheckPlace::InThreadBlock(piece, at, start, end) => {
+            write!(out, "{} at {at:#x} begins before ", PieceOrGot(link, piece))?;
             write!(
                 out,
-                " begins before the thread-local bytes end, at {end:#x}"
+                "the end of the thread-local bytes, from {start:#x} to {end:#x}"
             )
-        }
-        CheckPlace::GotInThreadBlock(got, start, end) => {
-            write!(out, "the GOT at {:#x}", got.address)?;
-            write_inner(out, *start, *end)
-        }
-        CheckPlace::PieceInThreadBlock(_, placed, start, end) => {
-            write!(out, "{} at {:#x}", PieceText(link, placed), placed.at)?;
-            write_inner(out, *start, *end)
         }
         CheckPlace::ThreadBytes(header) => {
             let (at, size) = (header.p_vaddr, header.p_filesz);
@@ -171,40 +147,104 @@ pub fn write_relocation<W: Write>(out: &mut W, link: &Link<'_>, place: &CheckPla
     }
 }
 
-/// Writes a byte of a piece, and the relocation in whose field it lies.
-fn write_byte<W: Write>(out: &mut W, link: &Link<'_>, place: &BytePlace<'_>) -> Told {
-    let address = place.piece.at.saturating_add(place.offset);
-    let byte = ByteText(address, place.there, place.wanted);
-    let piece = PieceText(link, &place.piece);
-    write!(out, "{piece}: byte {:#x} {byte}", place.offset)?;
-    match &place.relocation {
-        Some(place) => write!(out, ": {}", RelocationEntry(place, true)),
-        None => Ok(()),
+/// Writes what a piece is.
+fn write_piece<W: Write>(out: &mut W, link: &Link<'_>, placed: &Placed<'_>) -> Told {
+    write!(out, "{}", PieceText(link, placed))
+}
+
+/// Writes a byte of memory, and what it is of.
+pub fn write_byte<W: Write>(out: &mut W, link: &Link<'_>, place: &BytePlace<'_>) -> Told {
+    let (k, byte) = (
+        place.offset,
+        ByteText(place.there, "not mapped", Some(place.wanted)),
+    );
+    match &place.of {
+        ByteOf::Got(got) => {
+            let at = got.address.saturating_add(k);
+            write!(out, "the GOT: byte {k:#x} at {at:#x} {byte}")
+        }
+        ByteOf::Piece(_, placed, relocation) => {
+            write_piece(out, link, placed)?;
+            let at = placed.at.saturating_add(k);
+            write!(out, ": byte {k:#x} at {at:#x} {byte}")?;
+            match relocation {
+                Some(place) => write!(out, ": {}", RelocationEntry(place, true)),
+                None => Ok(()),
+            }
+        }
+        ByteOf::Fill(rights) => {
+            let rights = rights_text(*rights);
+            write!(
+                out,
+                "{k:#x}, in no section and in a segment with {rights}, {byte}"
+            )
+        }
     }
 }
 
-/// Writes a place of the tenth or the eleventh clause.
-pub fn write_memory<W: Write>(out: &mut W, link: &Link<'_>, place: &CheckPlace<'_>) -> Told {
+/// Writes a byte after the last file part, and the entry of the symbol table that it is in.
+pub fn write_table_byte<W: Write>(out: &mut W, place: &TableByte<'_>) -> Told {
+    let at = place.parts_end.saturating_add(place.number);
+    write!(out, "the image at byte {at:#x}, after its last segment, ")?;
+    if let Some(TableEntry { number, name }) = &place.entry {
+        write!(
+            out,
+            "in entry {number} of the symbol table, of {}, ",
+            Name(name)
+        )?;
+    }
+    write!(
+        out,
+        "{}",
+        ByteText(place.there, "the end of the file", place.wanted)
+    )
+}
+
+/// What a number is, and whether it reads in hexadecimal.
+fn number_text(name: NumberName) -> (&'static str, bool) {
+    match name {
+        NumberName::GotSize => ("the map's got line: the size", false),
+        NumberName::SlotAddress(_) => ("the address of the slot", true),
+        NumberName::Length => (
+            "the size of the image, up to the end of its last file part,",
+            true,
+        ),
+        NumberName::TableOffset => ("the map's symtab line: the offset", false),
+        NumberName::TableCount => ("the map's symtab line: the number of entries", false),
+        NumberName::HeadersOffset => ("the file header: e_shoff", true),
+        NumberName::HeadersCount => ("the file header: e_shnum", false),
+        NumberName::NamesSection => ("the file header: e_shstrndx", false),
+    }
+}
+
+/// Writes a number that isn't the wanted one.
+pub fn write_number<W: Write>(
+    out: &mut W,
+    link: &Link<'_>,
+    name: NumberName,
+    numbers: (u64, u64),
+) -> Told {
+    if let NumberName::SlotAddress(k) = name {
+        write!(out, "{}: ", MapLine(link, Kind::Slot, k))?;
+    }
+    let ((text, hex), (there, wanted)) = (number_text(name), numbers);
+    match hex {
+        true => write!(out, "{text} is {there:#x}, and should be {wanted:#x}"),
+        false => write!(out, "{text} is {there}, and should be {wanted}"),
+    }?;
+    if text.starts_with("the file") && link.map.symtab.is_none() {
+        out.write_all(b": the map has no symtab line")?;
+    }
+    Ok(())
+}
+
+/// Writes a place of the eleventh clause, but for a byte of memory.
+pub fn write_fill<W: Write>(out: &mut W, place: &CheckPlace<'_>) -> Told {
     match place {
-        CheckPlace::Byte(place) => write_byte(out, link, place),
-        CheckPlace::Fill(place) => {
-            let (address, byte, wanted) = (place.address, place.byte, place.wanted);
-            write!(out, "{address:#x}: {byte:#04x} is in no section, and ")?;
-            let rights = rights_text(place.rights);
-            write!(out, "should be {wanted:#04x} in a segment with {rights}")
-        }
-        CheckPlace::EmptySegment(place) => {
-            let (number, at) = (place.number, place.header.p_vaddr);
-            write!(out, "segment {number} at {at:#x}: nothing is in it")
-        }
         CheckPlace::SegmentEnd(place, in_file, end) => write_end(out, place, *in_file, *end),
         CheckPlace::Gap(offset, byte) => {
             write!(out, "offset {offset:#x} of the image: {byte:#04x} ")?;
             out.write_all(b"is in no segment, and should be 0x00")
-        }
-        CheckPlace::Length(len, end) => {
-            write!(out, "the image has {len:#x} bytes, and ")?;
-            write!(out, "its last file part ends at {end:#x}")
         }
         _ => Ok(()),
     }

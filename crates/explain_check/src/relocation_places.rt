@@ -1,8 +1,6 @@
 //! The places of the kept relocations of loaded objects.
-ghost use Rattle.std.specs.Prelude.{◌≡◌, ◌↔◌, ◌+◌, ◌<◌, ◌≤◌, IfSome, IsTrue, Some, true};
+ghost use Rattle.std.specs.Prelude.{◌≡◌, ◌↔◌, ◌+◌, ◌<◌, ◌≤◌, IfSome, IsTrue, Some};
 ghost use Rattle.std.specs.List.{slice_get};
-ghost use Rattle.elf_model.specs.Inputs.ObjectFile.{relas_of, sections};
-ghost use Rattle.elf_model.specs.Link.Relocation.{is_kept_rela};
 ghost use Rattle.elf_model.specs.Image.RightLink.{objects_of};
 ghost use Rattle.check_load.specs.Views.{loaded_view, loaded_views};
 ghost use Rattle.explain_check.specs.RelocationPlaces.{IsFieldOver, IsPlaceOf, width_of_entry};
@@ -12,8 +10,7 @@ use crate::place::Referrer;
 use check_load::Loaded;
 use check_relocs::{is_some_kind, kind_of};
 use checker::BoundLink;
-use elf_model::{Rela, SectionHeader};
-use elf_read::RelaRun;
+use elf_model::Rela;
 use input_names::{RelocationPlace, relocation_place};
 
 /// A kept relocation, by the numbers of its object, of the RELA section that lists it and of itself there; the number of the
@@ -58,38 +55,6 @@ pub fn object_at<'l, 'a>(objects: &'l [Loaded<'a>], k: usize) -> Option<&'l Load
     objects.get(k)
 }
 
-/// Entry `e` of RELA section `i`, which has the header, of an object.
-fn entry_at(one: &Loaded<'_>, i: usize, header: &SectionHeader, e: usize) -> Option<Rela>
-    requires there { slice_get (sections (loaded_view one.now).bytes) i ≡ Some header.now }
-    requires rela { header.now.sh_type ≡ 4 }
-    ensures { IfSome result (λ x. slice_get (relas_of (loaded_view one.now).bytes header.now) e
-        ≡ Some x) }
-{
-    let _header = header;
-    one.object.relas(i)?.get(e)
-}
-
-/// The place of entry `e` of a section, which has the header and holds kept relocations of an object, unless it is NONE.
-fn place_with<'a>(
-    referrer: &Referrer<'_, '_, 'a>,
-    i: usize,
-    header: &SectionHeader,
-    e: usize,
-) -> Option<RelocationPlace<'a>>
-    requires there { slice_get (sections (loaded_view referrer.now.one.now).bytes) i
-        ≡ Some header.now }
-    requires kept { is_kept_rela (loaded_view referrer.now.one.now) i header.now ≡ true }
-    requires rela { header.now.sh_type ≡ 4 }
-    ensures { IfSome result (IsPlaceOf referrer.now) }
-{
-    let entry = entry_at(referrer.one, i, header, e)?;
-    if !is_some_kind(&entry) {
-        return None;
-    }
-    let (number, object) = (referrer.number, &referrer.one.object);
-    Some(relocation_place(number, object, i, header, e, &entry))
-}
-
 /// The place of the relocation that has a number in section `i` of an object, where it is kept and isn't NONE.
 pub fn place_at<'a>(
     referrer: &Referrer<'_, '_, 'a>,
@@ -98,11 +63,16 @@ pub fn place_at<'a>(
 ) -> Option<RelocationPlace<'a>>
     ensures { IfSome result (IsPlaceOf referrer.now) }
 {
-    let header = referrer.one.object.sections().get(i)?;
-    if !referrer.one.is_kept_rela(i, &header) {
+    let one = referrer.one;
+    let header = one.object.sections().get(i)?;
+    if !one.is_kept_rela(i, &header) {
         return None;
     }
-    place_with(referrer, i, &header, e)
+    let entry = one.object.relas(i)?.get(e)?;
+    if !is_some_kind(&entry) {
+        return None;
+    }
+    Some(relocation_place(referrer.number, &one.object, i, &header, e, &entry))
 }
 
 /// The width of an entry's field in bytes; 0 for a type that is no kind.
@@ -139,27 +109,6 @@ fn entry_over(one: &Loaded<'_>, section: u64, k: u64) -> Option<(usize, usize)> 
     None
 }
 
-/// The relocation, where byte `k` of a section lies in its field.
-fn field_over<'a>(
-    referrer: &Referrer<'_, '_, 'a>,
-    place: &RelocationPlace<'a>,
-    section: u64,
-    k: u64,
-) -> Option<RelocationPlace<'a>>
-    requires { IsPlaceOf referrer.now place.now }
-    ensures { IfSome result (IsFieldOver
-        (objects_of referrer.now.bound.now) referrer.now.number section k) }
-{
-    let _referrer = referrer;
-    if place.section as u64 != section {
-        return None;
-    }
-    if !is_over(&place.entry, k) {
-        return None;
-    }
-    Some(*place)
-}
-
 /// The first kept relocation in whose field byte `k` of a section of an object of the link lies; None where it isn't asked for.
 pub fn field_place<'a>(
     bound: &BoundLink<'_, 'a>,
@@ -178,5 +127,11 @@ pub fn field_place<'a>(
     let referrer = Referrer { bound, number, one };
     let (table, entry) = entry_over(one, section, k)?;
     let place = place_at(&referrer, table, entry)?;
-    field_over(&referrer, &place, section, k)
+    if place.section as u64 != section {
+        return None;
+    }
+    if !is_over(&place.entry, k) {
+        return None;
+    }
+    Some(place)
 }

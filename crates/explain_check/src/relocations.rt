@@ -5,9 +5,9 @@ ghost use Rattle.elf_model.specs.Image.RightLink.{AreRelocationsRight};
 ghost use Rattle.check_relocs.specs.Kinds.{kind_view};
 ghost use Rattle.check_relocs.specs.LawfulFields as fields;
 ghost use Rattle.explain_check.specs.Places.{AreFailures, FailsIn};
-ghost use Rattle.explain_check.specs.RelocationPlaces.{IsPlaceOf, IsWrongWith};
+ghost use Rattle.explain_check.specs.RelocationPlaces.{IsWrongWith};
 
-use crate::found::{Added, Found, Judge, add_all};
+use crate::found::{Added, Found};
 use crate::place::{CheckPlace, Failure, Referrer};
 use crate::relocation_places::{EntryAt, list_entries, object_at, place_at, width_of};
 use check_relocs::{
@@ -16,8 +16,8 @@ use check_relocs::{
 };
 use checker::BoundLink;
 use elf_model::Rela;
-use input_names::{RelocationFault, RelocationPlace, begins_in};
-use std::alloc::{AllocError, Global};
+use input_names::{RelocationFault, begins_in};
+use std::alloc::Global;
 
 /// What is wrong with an entry of a kind, but for its value.
 fn fault_with(kind: &Kind, target: &Target, to: &Relocated, entry: &Rela) -> Option<RelocationFault>
@@ -57,124 +57,68 @@ fn value_with(kind: &Kind, target: &Target, to: &Relocated, given: &LinkTerms, e
     value_of(kind.formula, entry.r_addend, terms)
 }
 
-/// What is wrong with a relocation.
-fn wrong_place<'a>(referrer: &Referrer<'_, '_, 'a>, place: &RelocationPlace<'a>) -> Failure<'a>
-    requires { IsPlaceOf referrer.now place.now }
+/// What is wrong with a kept relocation of an object.
+fn wrong_place<'a>(referrer: &Referrer<'_, '_, 'a>, at: &EntryAt) -> Failure<'a>
     ensures { IfSome result (FailsIn referrer.now.bound.now) }
 {
+    let place = place_at(referrer, at.table, at.number)?;
     let bindings = referrer.bound.bindings();
     let one = referrer.one;
     let number = referrer.number as u64;
     let entry = place.entry;
     let Some(kind) = kind_of(entry.kind()) else {
-        return Some(CheckPlace::Relocation(*place, RelocationFault::RelocKind));
+        return Some(CheckPlace::Relocation(place, RelocationFault::RelocKind));
     };
     let to = relocated(bindings, number, &one.object, place.section);
     let symbol = entry.symbol() as usize;
     let target = target_of_symbol(bindings, number, one, symbol);
     let given = link_terms(bindings, number, one, &entry);
     if let Some(fault) = fault_with(&kind, &target, &to, &entry) {
-        return Some(CheckPlace::Relocation(*place, fault));
+        return Some(CheckPlace::Relocation(place, fault));
     }
     let value = value_with(&kind, &target, &to, &given, &entry);
     if fits(kind.range, kind.width as u64, value) {
         return None;
     }
     let address = to.address.wrapping_add(entry.r_offset);
-    Some(CheckPlace::Value(*place, value, address))
+    Some(CheckPlace::Value(place, value, address))
 }
 
-/// Two relocations, where the field of the second one begins inside that of the first one, in a link whose relocations aren't
-/// right.
-fn overlap<'a>(
-    referrer: &Referrer<'_, '_, 'a>,
-    first: &RelocationPlace<'a>,
-    second: &RelocationPlace<'a>,
-) -> Failure<'a>
-    requires first { IsPlaceOf referrer.now first.now }
-    requires second { IsPlaceOf referrer.now second.now }
-    requires fails { ¬ AreRelocationsRight referrer.now.bound.now }
+/// Two kept relocations of an object, where the field of the second one begins inside that of the first one, in a link whose
+/// relocations aren't right.
+fn overlap<'a>(referrer: &Referrer<'_, '_, 'a>, first: &EntryAt, second: &EntryAt) -> Failure<'a>
+    requires { ¬ AreRelocationsRight referrer.now.bound.now }
     ensures { IfSome result (FailsIn referrer.now.bound.now) }
 {
-    let _referrer = referrer;
+    let first = place_at(referrer, first.table, first.number)?;
+    let second = place_at(referrer, second.table, second.number)?;
     let width = width_of(&first.entry);
     let second_width = width_of(&second.entry);
-    if !begins_in(first, width, second, second_width) {
+    if !begins_in(&first, width, &second, second_width) {
         return None;
     }
-    Some(CheckPlace::Overlap(*first, *second))
+    Some(CheckPlace::Overlap(first, second))
 }
 
-/// What may be wrong: a relocation, or its field and that of another one of its object.
-#[derive(Clone, Copy)]
-struct Suspect {
-    at: EntryAt,
-    next: Option<EntryAt>,
-}
-
-/// A link and what may be wrong with its relocations.
-#[derive(Drop)]
-struct Relocations<'b, 'o, 'a> {
-    bound: &'b BoundLink<'o, 'a>,
-    suspects: &'b [Suspect],
-    ghost fails: { ¬ AreRelocationsRight bound.now },
-}
-
-/// What is wrong with a suspect.
-fn wrong_suspect<'a>(bound: &BoundLink<'_, 'a>, suspect: Suspect) -> Failure<'a>
-    requires { ¬ AreRelocationsRight bound.now }
-    ensures { IfSome result (FailsIn bound.now) }
+/// Adds what is wrong with kept relocations of an object, and neighbours in the order of their sections and fields that share a
+/// byte.
+fn add_entries<'a>(
+    found: &mut Found<'a>,
+    referrer: &Referrer<'_, '_, 'a>,
+    mut entries: Vec<EntryAt>,
+) -> Added
+    requires fails { ¬ AreRelocationsRight referrer.now.bound.now }
+    requires before { AreFailures referrer.now.bound.now found.old.places.items }
+    ensures { OnOk result (AreFailures referrer.now.bound.now found.new.places.items) }
 {
-    let Suspect { at, next } = suspect;
-    let number = at.object;
-    let one = object_at(bound.bindings().objects(), number)?;
-    let referrer = Referrer { bound, number, one };
-    let place = place_at(&referrer, at.table, at.number)?;
-    match next {
-        Some(next) => {
-            let second = place_at(&referrer, next.table, next.number)?;
-            overlap(&referrer, &place, &second)
-        }
-        None => wrong_place(&referrer, &place),
-    }
-}
-
-impl<'a> Judge<'a, ()> for Relocations<'_, '_, 'a> {
-    ghost subject = { λ r. r.bound.now };
-
-    fn judge(&self, _: (), number: usize) -> Failure<'a> {
-        let suspect = self.suspects.get(number).copied()?;
-        wrong_suspect(self.bound, suspect)
-    }
-}
-
-/// Adds the relocations of an object to what may be wrong, and neighbours in the order of their sections and fields.
-fn add_suspects(suspects: &mut Vec<Suspect>, mut entries: Vec<EntryAt>) -> Added {
     for at in &entries {
-        suspects.push(Suspect {
-            at: *at,
-            next: None,
-        })?;
+        found.add_some(wrong_place(referrer, at))?;
     }
     entries.sort_by_key(|at| (at.section, at.entry.r_offset))?;
     for i in 1..entries.len() {
-        suspects.push(Suspect {
-            at: entries[i - 1],
-            next: Some(entries[i]),
-        })?;
+        found.add_some(overlap(referrer, &entries[i - 1], &entries[i]))?;
     }
     Ok(())
-}
-
-/// What may be wrong with the relocations of a link, object by object.
-fn suspects_of(alloc: Global, bound: &BoundLink<'_, '_>) -> Result<Vec<Suspect>, AllocError> {
-    let mut suspects = Vec::new(alloc);
-    for (object, one) in bound.bindings().objects().iter().enumerate() {
-        let mut entries = Vec::new(alloc);
-        list_entries(&mut entries, one, object)?;
-        add_suspects(&mut suspects, entries)?;
-    }
-    Ok(suspects)
 }
 
 /// Adds the kept relocations of a link that aren't lawful or whose values don't fit: where its ninth clause fails.
@@ -183,10 +127,15 @@ pub fn add_c9<'a>(alloc: Global, found: &mut Found<'a>, bound: &BoundLink<'_, 'a
     requires before { AreFailures bound.now found.old.places.items }
     ensures { OnOk result (AreFailures bound.now found.new.places.items) }
 {
-    let suspects = suspects_of(alloc, bound)?;
-    let relocations = Relocations {
-        bound,
-        suspects: &suspects,
-    };
-    add_all(found, &relocations, (), suspects.len())
+    let objects = bound.bindings().objects();
+    for number in 0..objects.len() {
+        let Some(one) = object_at(objects, number) else {
+            continue;
+        };
+        let mut entries = Vec::new(alloc);
+        list_entries(&mut entries, one, number)?;
+        let referrer = Referrer { bound, number, one };
+        add_entries(found, &referrer, entries)?;
+    }
+    Ok(())
 }

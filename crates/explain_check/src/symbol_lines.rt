@@ -1,48 +1,36 @@
-//! C12 and C13: an entry without a lawful definition, or an `e_entry` that is another than its value; symbol lines that are others
-//! than their names ask for, and names that lack their line.
-ghost use Rattle.std.specs.Prelude.{◌≡◌, ◌%◌, ◌^◌, ℕ, IfNone, IfOk, IfSome, IsTrue, List, None, OnOk, Some, cond, find, map, option_map};
-ghost use Rattle.std.specs.Option.{option_or};
+//! C12 and C13: an `e_entry` that isn't the value of a lawful definition; symbol lines that are others than their names ask for, and
+//! names that lack their line.
+ghost use Rattle.std.specs.Prelude.{◌≡◌, ◌↔◌, IfSome, IsTrue, OnOk, find, option_copied, option_map};
 ghost use Rattle.linkmap.specs.Borrowed.{symbol_row};
-ghost use Rattle.elf_model.specs.Link.Listing.{linker_line, listed};
-ghost use Rattle.elf_model.specs.Link.Meaning.{meaning_value};
-ghost use Rattle.elf_model.specs.Link.Resolution.{IsEntry, chosen};
-ghost use Rattle.elf_model.specs.Image.RightLink.{Holds, objects_of};
+ghost use Rattle.elf_model.specs.Link.Listing.{listed};
+ghost use Rattle.elf_model.specs.Image.RightLink.{HasLine, Holds, definition_row, objects_of, where_of};
 ghost use Rattle.elf_model.specs.declared.verdict.Clause.TheVariants as clause;
-ghost use Rattle.check_link.specs.Views.{meaning_view, symbol_view};
+ghost use Rattle.check_link.specs.Views.{meaning_view};
 ghost use Rattle.check_relocs.specs.LinkerUses.{AreUsed};
-ghost use Rattle.explain_check.specs.LinePlaces.{IsEntryMeaning, IsMeantIf, IsSymbolIndex, is_symbol_row_of, symbol_in};
+ghost use Rattle.explain_check.specs.LinePlaces.{IsEntryValue, is_symbol_row_of};
 ghost use Rattle.explain_check.specs.Places.{AreFailures, FailsIn};
 
-use crate::found::{Added, Found, Judge, add_all};
-use crate::place::{CheckPlace, EntryPlace, Failure, MeaningPlace, SymbolLinePlace};
-use check_link::{Link, Meaning, SymbolOf, entry_of};
+use crate::found::{Added, Found};
+use crate::place::{CheckPlace, Failure, LineKey};
+use check_link::{Meaning, entry_of};
 use check_relocs::{Bindings, used_names};
 use check_tables::c13_symbols::is_right_line;
 use checker::BoundLink;
-use linkmap::BorrowedSymbol;
+use elf_model::{Definition, STB_WEAK};
+use linkmap::{BorrowedSymbol, Line};
 use std::alloc::{AllocError, Global};
-use std::collections::{BTreeMap, BTreeSet};
+use std::collections::BTreeSet;
 
-/// What a name means, with its value.
-fn valued<'a>(bindings: &Bindings<'_, '_, 'a>, meaning: Meaning<'a>) -> MeaningPlace<'a>
-    ensures meaning { result.meaning ≡ meaning.entry }
-    ensures value { result.value ≡ meaning_value bindings.now.places
-        (meaning_view meaning.entry) % 2 ^ 64 }
-{
-    let value = bindings.value_of(&meaning);
-    MeaningPlace { meaning, value }
-}
-
-/// What the entry's name means, with its value, where its chosen definition stands in no section with SHF_TLS.
-fn entry_meaning<'a>(bindings: &Bindings<'_, '_, 'a>, name: &[u8]) -> Option<MeaningPlace<'a>>
-    ensures { IsEntryMeaning bindings.now.objects bindings.now.places name.now result }
+/// The value of what the entry's name means, where its chosen definition stands in no section with SHF_TLS.
+fn entry_value(bindings: &Bindings<'_, '_, '_>, name: &[u8]) -> Option<u64>
+    ensures { IsEntryValue bindings.now.objects bindings.now.places name.now result }
 {
     let symbol = bindings.chosen(name)?;
     if bindings.is_in_thread_section(&symbol) {
         return None;
     }
     let meaning = bindings.meant(&symbol)?;
-    Some(valued(bindings, meaning))
+    Some(bindings.value_of(&meaning))
 }
 
 /// Adds that the twelfth clause fails.
@@ -52,59 +40,8 @@ pub fn add_c12<'a>(found: &mut Found<'a>, bound: &BoundLink<'_, 'a>) -> Added
     ensures { OnOk result (AreFailures bound.now found.new.places.items) }
 {
     let link = bound.link();
-    let name = entry_of(&link.plan);
-    found.add(CheckPlace::Entry(EntryPlace {
-        name,
-        e_entry: bound.memory().entry(),
-        wanted: entry_meaning(bound.bindings(), name),
-    }))
-}
-
-/// Puts a line into an index by names, unless one of its name is there.
-fn add_line<'m>(
-    index: &mut BTreeMap<&'m [u8], &'m BorrowedSymbol<'m>>,
-    line: &'m BorrowedSymbol<'m>,
-) -> Added
-    ensures { OnOk result ((name : List ℕ) →
-        symbol_in index.new name
-        ≡ option_or (symbol_in index.old name)
-        (cond (is_symbol_row_of name (symbol_row line.entry.now))
-        (Some (symbol_row line.entry.now)) None)) }
-{
-    let name = line.name.as_slice();
-    if !index.contains_key(name) {
-        index.insert(name, line)?;
-    }
-    Ok(())
-}
-
-/// The first of symbol lines of each name.
-fn index_symbols<'m>(
-    alloc: Global,
-    lines: &'m [BorrowedSymbol<'m>],
-) -> Result<BTreeMap<&'m [u8], &'m BorrowedSymbol<'m>>, AllocError>
-    ensures { IfOk result (IsSymbolIndex (map symbol_row lines.entry.now)) }
-{
-    let mut index = BTreeMap::new(alloc);
-    for line in lines {
-        add_line(&mut index, line)?;
-    }
-    Ok(index)
-}
-
-/// What one of the linker's names means that has a line, given these names.
-fn linkers_meaning<'a>(
-    bindings: &Bindings<'_, '_, 'a>,
-    names: &BTreeSet<&'a [u8]>,
-    name: &'a [u8],
-) -> Option<Meaning<'a>>
-    requires { AreUsed bindings.now.objects names.now }
-    ensures { option_map meaning_view result ≡ linker_line bindings.now.objects name.entry.now }
-{
-    if !names.contains(name) {
-        return None;
-    }
-    bindings.linker_meaning(name)
+    let value = entry_value(bound.bindings(), entry_of(&link.plan));
+    found.add(CheckPlace::Entry(bound.memory().entry(), value))
 }
 
 /// What a name means that has a line, given the linker's names that have one.
@@ -118,111 +55,116 @@ fn listed_meaning<'a>(
 {
     match bindings.object_meaning(name) {
         Some(meaning) => Some(meaning),
-        None => linkers_meaning(bindings, names, name),
+        None if names.contains(name) => bindings.linker_meaning(name),
+        None => None,
     }
 }
 
-/// A link, the linker's names that have a line in its map, and the map's lines by their names.
-#[derive(Drop)]
-struct Listing<'b, 'o, 'a> {
-    bound: &'b BoundLink<'o, 'a>,
-    names: BTreeSet<&'a [u8]>,
-    index: BTreeMap<&'a [u8], &'a BorrowedSymbol<'a>>,
-    ghost used: { AreUsed (objects_of bound.now) names },
-    ghost rows: { IsSymbolIndex bound.now.map.symbols index },
-}
-
-/// What the name of a line means, with its value, where it has a line.
-fn wanted_of<'a>(listing: &Listing<'_, '_, 'a>, name: &'a [u8]) -> Option<MeaningPlace<'a>>
-    ensures { IsMeantIf listing.now.bound.now name.entry.now result }
+/// Who defines a name, as its line says.
+fn definition_of(meaning: &Meaning<'_>) -> Definition
+    ensures { result ≡ definition_row (meaning_view meaning.now) }
 {
-    let bindings = listing.bound.bindings();
-    let meaning = listed_meaning(bindings, &listing.names, name)?;
-    Some(valued(bindings, meaning))
-}
-
-/// The symbol line that has a number, where it is another one than its name asks for.
-fn wrong_line<'a>(listing: &Listing<'_, '_, 'a>, k: usize) -> Failure<'a>
-    ensures { IfSome result (FailsIn listing.now.bound.now) }
-{
-    let link = listing.bound.link();
-    let line = link.map.symbols.get(k)?;
-    if is_right_line(listing.bound.bindings(), &listing.names, line) {
-        return None;
-    }
-    Some(CheckPlace::SymbolLine(SymbolLinePlace {
-        number: k as u64,
-        line,
-        wanted: wanted_of(listing, &line.name),
-    }))
-}
-
-/// A name that lacks the line that it asks for.
-fn missing<'a>(listing: &Listing<'_, '_, 'a>, name: &'a [u8]) -> Failure<'a>
-    ensures { IfSome result (FailsIn listing.now.bound.now) }
-{
-    if listing.index.contains_key(name) {
-        return None;
-    }
-    let meant = wanted_of(listing, name)?;
-    Some(CheckPlace::NoSymbolLine(name, meant))
-}
-
-/// What is judged by numbers: symbol lines, and names that may lack theirs.
-#[derive(Clone, Copy)]
-enum Row {
-    Line,
-    Name,
-}
-
-/// A listing, and names that may lack their lines.
-#[derive(Drop)]
-struct Lines<'l, 'b, 'o, 'a> {
-    listing: &'l Listing<'b, 'o, 'a>,
-    names: &'l [&'a [u8]],
-}
-
-/// The name that has a number, where it lacks the line that it asks for.
-fn missing_name<'a>(lines: &Lines<'_, '_, '_, 'a>, k: usize) -> Failure<'a>
-    ensures { IfSome result (FailsIn lines.now.listing.now.bound.now) }
-{
-    let name = lines.names.get(k).copied()?;
-    missing(lines.listing, name)
-}
-
-impl<'a> Judge<'a, Row> for Lines<'_, '_, '_, 'a> {
-    ghost subject = { λ l. l.listing.now.bound.now };
-
-    fn judge(&self, row: Row, number: usize) -> Failure<'a> {
-        match row {
-            Row::Line => wrong_line(self.listing, number),
-            Row::Name => missing_name(self, number),
+    match meaning {
+        Meaning::Common(_) => Definition::Common,
+        Meaning::Linker(_, _) => Definition::Linker,
+        Meaning::Symbol(definition) => {
+            let (object, symbol) = (definition.object, definition.number);
+            match definition.entry.binding() {
+                STB_WEAK => Definition::Weak { object, symbol },
+                _ => Definition::Strong { object, symbol },
+            }
         }
     }
 }
 
-/// The names that lack a line: those that objects define, each once, and the linker's that are used.
-fn lacking_of<'a>(
+/// The first line of a name.
+fn line_named<'m>(lines: &'m [BorrowedSymbol<'m>], name: &[u8]) -> Option<&'m BorrowedSymbol<'m>>
+    ensures { option_copied result
+        ≡ find (λ line. is_symbol_row_of name.now (symbol_row line)) lines.entry.now }
+{
+    lines.iter().find(|line| line.name.as_slice() == name)
+}
+
+/// Whether a name has the line that it asks for, given the linker's names that have one, and what it means that has one.
+fn has_right_line<'a>(
+    bound: &BoundLink<'_, 'a>,
+    names: &BTreeSet<&'a [u8]>,
+    name: &'a [u8],
+    meaning: &Option<Meaning<'a>>,
+) -> bool
+    requires used { AreUsed (objects_of bound.now) names.now }
+    requires meaning { option_map meaning_view meaning.now ≡ listed (objects_of bound.now) name.now }
+    ensures { IsTrue result ↔ HasLine
+        bound.now.map.symbols (objects_of bound.now) (where_of bound.now) name.entry.now }
+{
+    let link = bound.link();
+    match line_named(&link.map.symbols, name) {
+        Some(line) => is_right_line(bound.bindings(), names, line),
+        None => meaning.is_none(),
+    }
+}
+
+/// The symbol line of a name, where the name asks for another one, given the linker's names that have one.
+fn wrong_symbol<'a>(
+    bound: &BoundLink<'_, 'a>,
+    names: &BTreeSet<&'a [u8]>,
+    name: &'a [u8],
+) -> Failure<'a>
+    requires { AreUsed (objects_of bound.now) names.now }
+    ensures { IfSome result (FailsIn bound.now) }
+{
+    let bindings = bound.bindings();
+    let meaning = listed_meaning(bindings, names, name);
+    if has_right_line(bound, names, name, &meaning) {
+        return None;
+    }
+    let key = LineKey::Symbol(name);
+    match meaning {
+        Some(meaning) => {
+            let line = Line::Symbol {
+                address: bindings.value_of(&meaning),
+                definition: definition_of(&meaning),
+                name,
+            };
+            Some(CheckPlace::Line(key, Some(line)))
+        }
+        None => Some(CheckPlace::Line(key, None)),
+    }
+}
+
+/// The names of wrong lines, and those without a line that ask for one: of definitions, and the linker's that have one.
+fn suspects<'a>(
     alloc: Global,
-    listing: &Listing<'_, '_, 'a>,
-) -> Result<Vec<&'a [u8]>, AllocError> {
-    let bindings = listing.bound.bindings();
+    bound: &BoundLink<'_, 'a>,
+    names: &BTreeSet<&'a [u8]>,
+) -> Result<Vec<&'a [u8]>, AllocError>
+    requires { AreUsed (objects_of bound.now) names.now }
+{
+    let link = bound.link();
+    let bindings = bound.bindings();
     let definitions = bindings.definitions();
-    let mut names = Vec::new(alloc);
+    let mut told = BTreeSet::new(alloc);
+    let mut suspects = Vec::new(alloc);
+    for line in &link.map.symbols {
+        told.insert(line.name.as_slice())?;
+        if !is_right_line(bindings, names, line) {
+            suspects.push(line.name.as_slice())?;
+        }
+    }
     for k in 0..definitions.len() {
         let Some(symbol) = definitions.get(k) else {
             continue;
         };
-        if bindings.is_chosen(&symbol) && !listing.index.contains_key(symbol.name) {
-            names.push(symbol.name)?;
+        if bindings.is_chosen(&symbol) && !told.contains(symbol.name) {
+            suspects.push(symbol.name)?;
         }
     }
-    for name in &listing.names {
-        if !listing.index.contains_key(*name) {
-            names.push(*name)?;
+    for name in names {
+        if !told.contains(*name) && listed_meaning(bindings, names, name).is_some() {
+            suspects.push(*name)?;
         }
     }
-    Ok(names)
+    Ok(suspects)
 }
 
 /// Adds where the thirteenth clause fails, but for symbols that aren't sound and second strong definitions of a name.
@@ -230,19 +172,14 @@ pub fn add_c13<'a>(alloc: Global, found: &mut Found<'a>, bound: &BoundLink<'_, '
     requires { AreFailures bound.now found.old.places.items }
     ensures { OnOk result (AreFailures bound.now found.new.places.items) }
 {
-    let link = bound.link();
     let names = used_names(alloc, bound.bindings())?;
-    let index = index_symbols(alloc, &link.map.symbols)?;
-    let listing = Listing {
-        bound,
-        names,
-        index,
-    };
-    let names = lacking_of(alloc, &listing)?;
-    let lines = Lines {
-        listing: &listing,
-        names: &names,
-    };
-    add_all(found, &lines, Row::Line, link.map.symbols.len())?;
-    add_all(found, &lines, Row::Name, names.len())
+    let suspects = suspects(alloc, bound, &names)?;
+    for name in &suspects {
+        if found.is_full() {
+            found.count();
+            continue;
+        }
+        found.add_some(wrong_symbol(bound, &names, name))?;
+    }
+    Ok(())
 }

@@ -1,26 +1,30 @@
 //! C14: where the map's line of a symbol table, the file header and the bytes after the last file part are others than they
 //! should be.
-ghost use Rattle.std.specs.Prelude.{◌≡◌, ◌↔◌, ◌≤◌, ◌^◌, [], IfOk, IfSome, IsSome, IsTrue, List, None, OnOk, Some, length, map};
+ghost use Rattle.std.specs.Prelude.{◌≡◌, ◌↔◌, ◌*◌, ◌<◌, ◌≤◌, ◌^◌, All, IfSome, IsSome, IsTrue, OnOk, cond, is_some, length};
 ghost use Rattle.std.specs.List.{slice_get};
-ghost use Rattle.elf_model.specs.Link.Meaning.{Meaning, meaning_name};
-ghost use Rattle.elf_model.specs.Link.Placement.{Where, round_up};
-ghost use Rattle.elf_model.specs.Image.RightLink.{HoldsBefore, tabled_of, where_of};
-ghost use Rattle.elf_model.specs.Image.SymbolTable as symbol_table;
-ghost use Rattle.elf_model.specs.Image.SymbolTable.{headers_at, symtab_at};
+ghost use Rattle.linkmap.specs.Borrowed.{symbol_row};
+ghost use Rattle.elf_model.specs.Image.RightLink.{HoldsBefore, objects_of, tabled_of};
 ghost use Rattle.elf_model.specs.declared.verdict.Clause.TheVariants as clause;
-ghost use Rattle.check_link.specs.Views.{held};
+ghost use Rattle.check_tables.specs.Listed.{IsLine};
 ghost use Rattle.check_tables.specs.Tabled.{AreAt};
+ghost use Rattle.explain_check.specs.NumberPlaces.{parts_end};
 ghost use Rattle.explain_check.specs.Places.{AreFailures, FailsIn};
-ghost use Rattle.explain_check.specs.TablePlaces.{AreBuilt, IsEntryOf, parts_end, tail_of, wanted_tail};
+ghost use Rattle.explain_check.specs.TablePlaces.{IsInEntry, tail_of, wanted_tail};
 
 use crate::found::{Added, Found};
-use crate::place::{CheckPlace, Failure, TableByte, TableEntry, TablePlace};
-use crate::table_bytes::{TableBytes, table_of, tail_bytes};
+use crate::numbers::wrong_number;
+use crate::place::{CheckPlace, Failure, NumberName, TableByte, TableEntry};
+use byteview::View;
+use check_relocs::Bindings;
 use check_stages::file_end;
-use check_tables::c14_tables::has_no_sections;
-use check_tables::c14_tables::places::{Places, eight_up, places_of};
+use check_tables::c13_symbols::choices;
+use check_tables::c13_symbols::own_choices::OwnChoices;
+use check_tables::c14_tables::entries::entry_by;
+use check_tables::c14_tables::places::{Places, SECTION_NAMES, headers_of, places_of};
+use check_tables::c14_tables::places_if_tables;
 use checker::BoundLink;
-use elf_model::{SYM_SIZE, SymtabLine};
+use elf_model::{SHDR_SIZE, SYM_SIZE};
+use linkmap::BorrowedSymbol;
 use std::alloc::{AllocError, Global};
 
 /// The line of a table, or that there is none, where it must be otherwise.
@@ -28,178 +32,105 @@ fn wrongly_told<'a>(bound: &BoundLink<'_, 'a>) -> Failure<'a>
     ensures { IfSome result (FailsIn bound.now) }
 {
     let link = bound.link();
-    let symtab = link.map.symtab;
-    if link.map.version != 2 || symtab.is_some() != link.plan.strip {
+    let there = link.map.symtab.is_some();
+    if link.map.version != 2 || there != link.plan.strip {
         return None;
     }
-    Some(CheckPlace::Table(TablePlace::Told(symtab)))
+    Some(CheckPlace::Symtab(there))
 }
 
-/// What the file header tells of sections, where no table is told of.
-fn untold_sections<'a>(bound: &BoundLink<'_, 'a>) -> Failure<'a>
-    requires { bound.now.map.symtab ≡ None }
-    ensures { IfSome result (FailsIn bound.now) }
+/// The contents of `.symtab` and of `.strtab`, and the names of the entries from the second on.
+#[derive(Drop)]
+struct Table<'a> {
+    symbols: Vec<u8>,
+    strings: Vec<u8>,
+    names: Vec<&'a [u8]>,
+}
+
+/// The number of a table's entries.
+fn entry_count(table: &Table<'_>) -> u64
+    ensures { 24 * result < 2 ^ 63 }
 {
-    let header = bound.memory().header();
-    if has_no_sections(&header) {
-        return None;
-    }
-    Some(CheckPlace::Table(TablePlace::Sections(header.e_shoff, header.e_shnum, header.e_shstrndx)))
+    (table.symbols.len() / SYM_SIZE) as u64
 }
 
-/// The numbers of the file header that tell of the sections of a table, where they are others.
-fn wrong_numbers<'a>(bound: &BoundLink<'_, 'a>) -> Failure<'a>
-    requires { IsSome bound.now.map.symtab }
-    ensures { IfSome result (FailsIn bound.now) }
+/// The table of the definitions of lines. Its first entry is of zeros, its first name empty.
+fn table_of<'a>(
+    alloc: Global,
+    bindings: &Bindings<'_, '_, 'a>,
+    choices: &OwnChoices<'_, 'a>,
+    lines: &'a [BorrowedSymbol<'a>],
+) -> Result<Table<'a>, AllocError>
+    requires lines { All (λ line. IsLine bindings.now.objects bindings.now.places
+        (symbol_row line)) lines.now }
+    requires choices { choices.now ≡ bindings.now.objects }
 {
-    let header = bound.memory().header();
-    if header.e_shnum == 4 && header.e_shstrndx == 3 {
-        return None;
+    let mut table = Table {
+        symbols: Vec::new(alloc),
+        strings: Vec::new(alloc),
+        names: Vec::new(alloc),
+    };
+    table.symbols.resize(SYM_SIZE, 0)?;
+    table.strings.push(0)?;
+    for line in lines {
+        let name_at = table.strings.len().min(u32::MAX as usize) as u32;
+        if let Some(entry) = entry_by(bindings, choices, line, name_at) {
+            let mut record = [0; SYM_SIZE];
+            entry.write_to(&mut record);
+            table.symbols.extend_from_slice(&record)?;
+            table.strings.extend_from_slice(&line.name)?;
+            table.strings.push(0)?;
+            table.names.push(&line.name)?;
+        }
     }
-    Some(CheckPlace::Table(TablePlace::Numbers(header.e_shnum, header.e_shstrndx)))
+    Ok(table)
 }
 
-/// The offset that the line tells of, where the table has to be elsewhere.
-fn wrong_offset<'a>(bound: &BoundLink<'_, 'a>, line: SymtabLine, wanted: u64) -> Failure<'a>
-    requires line { bound.now.map.symtab ≡ Some line }
-    requires wanted { wanted ≡ symtab_at (parts_end bound.now) }
-    ensures { IfSome result (FailsIn bound.now) }
+/// The bytes of a table and its sections after the last file part, which ends at `end`.
+fn tail_with(alloc: Global, end: u64, table: &Table<'_>) -> Result<Vec<u8>, AllocError>
+    requires { end ≤ 2 ^ 46 }
 {
-    let _bound = bound;
-    if line.offset == wanted {
-        return None;
+    let names = table.strings.len().min(u32::MAX as usize) as u32;
+    let places = places_of(end, entry_count(table), names);
+    let mut bytes = Vec::new(alloc);
+    bytes.resize(places.symtab.saturating_sub(end) as usize, 0)?;
+    bytes.extend_from_slice(&table.symbols)?;
+    bytes.extend_from_slice(&table.strings)?;
+    bytes.extend_from_slice(SECTION_NAMES)?;
+    bytes.resize(places.headers.saturating_sub(end) as usize, 0)?;
+    for header in &headers_of(&places) {
+        let mut record = [0; SHDR_SIZE];
+        header.write_to(&mut record);
+        bytes.extend_from_slice(&record)?;
     }
-    Some(CheckPlace::Table(TablePlace::Offset(line.offset, wanted)))
+    Ok(bytes)
 }
 
-/// The number of entries that the line tells of, where there should be another.
-fn wrong_count<'a>(bound: &BoundLink<'_, 'a>, line: SymtabLine, wanted: u64) -> Failure<'a>
-    requires line { bound.now.map.symtab ≡ Some line }
-    requires wanted { wanted ≡ symbol_table.entry_count (tabled_of bound.now) }
-    ensures { IfSome result (FailsIn bound.now) }
+/// The entry that byte `i` is in, where a table's entries and its names begin at these bytes; its name is one of `names`.
+fn entry_at<'a>(
+    bytes: &[u8],
+    entries: usize,
+    strings: usize,
+    names: &[&'a [u8]],
+    i: usize,
+) -> Option<TableEntry<'a>>
+    ensures { IfSome result (IsInEntry bytes.now entries strings i) }
 {
-    let _bound = bound;
-    if line.count == wanted {
+    let number = i.checked_sub(entries)? / SYM_SIZE;
+    let name = names.get(number.checked_sub(1)?).copied()?;
+    let view = View::new(bytes);
+    let name_at = view.u32le(entries + SYM_SIZE * number)? as usize;
+    if view.text_at(strings.checked_add(name_at)?)? != name {
         return None;
     }
-    Some(CheckPlace::Table(TablePlace::Count(line.count, wanted)))
-}
-
-/// Where the file header says that the headers of sections are, where they should be elsewhere.
-fn wrong_headers<'a>(bound: &BoundLink<'_, 'a>, wanted: u64) -> Failure<'a>
-    requires told { IsSome bound.now.map.symtab }
-    requires wanted { wanted ≡ headers_at (parts_end bound.now) (tabled_of bound.now) }
-    ensures { IfSome result (FailsIn bound.now) }
-{
-    let header = bound.memory().header();
-    if header.e_shoff == wanted {
-        return None;
-    }
-    Some(CheckPlace::Table(TablePlace::Headers(header.e_shoff, wanted)))
-}
-
-/// The first offset at which two runs differ.
-fn first_difference(a: &[u8], b: &[u8]) -> Option<usize> {
-    (0..a.len().max(b.len())).find(|i| a.get(*i) != b.get(*i))
-}
-
-/// The entry that a byte after the last file part is in, with its name; the table begins after a number of zeros.
-fn entry_at<'a>(padding: usize, names: &[&'a [u8]], i: usize) -> Option<TableEntry<'a>>
-    ensures { IfSome result (IsEntryOf padding (map held names.now) i) }
-{
-    if i < padding {
-        return None;
-    }
-    let number = (i - padding) / SYM_SIZE;
-    if number == 0 {
-        return None;
-    }
-    let name = names.get(number - 1).copied()?;
     Some(TableEntry {
         number: number as u64,
         name,
     })
 }
 
-/// The first byte after the last file part that is another one than it should be.
-fn wrong_byte<'a>(
-    bound: &BoundLink<'_, 'a>,
-    end: u64,
-    bytes: &[u8],
-    wanted: &[u8],
-    names: &[&'a [u8]],
-) -> Failure<'a>
-    requires told { IsSome bound.now.map.symtab }
-    requires end { end ≡ parts_end bound.now }
-    requires bytes { bytes.now ≡ tail_of bound.now }
-    requires wanted { wanted.now ≡ wanted_tail bound.now }
-    requires names { map held names.now ≡ map meaning_name (tabled_of bound.now) }
-    requires low { end ≤ 2 ^ 46 }
-    ensures { IfSome result (FailsIn bound.now) }
-{
-    let _bound = bound;
-    let i = first_difference(bytes, wanted)?;
-    let there = bytes.get(i).copied();
-    let wanted = wanted.get(i).copied();
-    if there == wanted {
-        return None;
-    }
-    let padding = (eight_up(end) - end) as usize;
-    Some(CheckPlace::Table(TablePlace::Byte(TableByte {
-        parts_end: end,
-        number: i as u64,
-        there,
-        wanted,
-        entry: entry_at(padding, names, i),
-    })))
-}
-
-/// How many entries a table has.
-fn entry_count(table: &TableBytes<'_>) -> u64
-    ensures { (w : Where) (ms : List Meaning) →
-        AreBuilt w table.now [] ms → result ≡ symbol_table.entry_count ms }
-{
-    (table.symbols.len() / SYM_SIZE) as u64
-}
-
-/// Where the parts of a table are in a file whose last file part ends at `end`; None where the names take 2^32 bytes and more, or
-/// there are 2^58 entries and more.
-fn places_for(bound: &BoundLink<'_, '_>, end: u64, table: &TableBytes<'_>) -> Option<Places>
-    requires low { end ≤ 2 ^ 46 }
-    requires built { AreBuilt (where_of bound.now) table.now [] (tabled_of bound.now) }
-    ensures places { IfSome result (AreAt end (tabled_of bound.now)) }
-    ensures padded { IfSome result (λ p. p.headers ≡ round_up 8 p.shstrtab_end) }
-{
-    let _bound = bound;
-    let count = entry_count(table);
-    if table.strings.len() > u32::MAX as usize || count >= 1 << 58 {
-        return None;
-    }
-    let size = table.strings.len() as u32;
-    Some(places_of(end, count, size))
-}
-
-/// The bytes that should follow the last file part, which ends at `end`.
-fn wanted_bytes(
-    alloc: Global,
-    bound: &BoundLink<'_, '_>,
-    end: u64,
-    table: &TableBytes<'_>,
-    places: &Places,
-) -> Result<Vec<u8>, AllocError>
-    requires end { end ≡ parts_end bound.now }
-    requires built { AreBuilt (where_of bound.now) table.now [] (tabled_of bound.now) }
-    requires places { AreAt end (tabled_of bound.now) places.now }
-    requires padded { places.now.headers ≡ round_up 8 places.now.shstrtab_end }
-    ensures { IfOk result (λ v. v.items ≡ wanted_tail bound.now) }
-{
-    let _bound = bound;
-    let wanted = tail_bytes(alloc, end, table, places)?;
-    Ok(wanted)
-}
-
 /// The bytes of an image after its last file part, which ends at `end`.
-fn tail_of<'o, 'a>(bound: &BoundLink<'o, 'a>, end: u64) -> &'o [u8]
+fn tail_of<'o>(bound: &BoundLink<'o, '_>, end: u64) -> &'o [u8]
     requires end { end ≡ parts_end bound.now }
     requires inside { end ≤ length bound.now.image }
     ensures { result.now ≡ tail_of bound.entry.now }
@@ -208,99 +139,83 @@ fn tail_of<'o, 'a>(bound: &BoundLink<'o, 'a>, end: u64) -> &'o [u8]
     bytes
 }
 
-/// Adds the first byte after the last file part that is another one than it should be.
-fn add_byte<'a>(
-    alloc: Global,
-    found: &mut Found<'a>,
+/// The byte that has a number; None past the end.
+fn byte_at(bytes: &[u8], i: usize) -> Option<u8>
+    ensures { result ≡ slice_get bytes.now i }
+{
+    bytes.get(i).copied()
+}
+
+fn are_same(a: Option<u8>, b: Option<u8>) -> bool
+    ensures { IsTrue result ↔ (a ≡ b) }
+{
+    a == b
+}
+
+/// The first byte after the last file part, which ends at `end`, that is another one than it should be.
+fn wrong_byte<'a>(
     bound: &BoundLink<'_, 'a>,
     end: u64,
-    table: &TableBytes<'a>,
+    bytes: &[u8],
+    wanted: &[u8],
     places: &Places,
-) -> Added
+    names: &[&'a [u8]],
+) -> Failure<'a>
     requires told { IsSome bound.now.map.symtab }
     requires end { end ≡ parts_end bound.now }
-    requires low { end ≤ 2 ^ 46 }
-    requires inside { end ≤ length bound.now.image }
-    requires built { AreBuilt (where_of bound.now) table.now [] (tabled_of bound.now) }
+    requires bytes { bytes.now ≡ tail_of bound.now }
+    requires wanted { wanted.now ≡ wanted_tail bound.now }
     requires places { AreAt end (tabled_of bound.now) places.now }
-    requires padded { places.now.headers ≡ round_up 8 places.now.shstrtab_end }
-    requires before { AreFailures bound.now found.old.places.items }
-    ensures { OnOk result (AreFailures bound.now found.new.places.items) }
+    ensures { IfSome result (FailsIn bound.now) }
 {
-    let wanted = wanted_bytes(alloc, bound, end, table, places)?;
-    let bytes = tail_of(bound, end);
-    found.add_some(wrong_byte(bound, end, bytes, &wanted, &table.names))
+    let _bound = bound;
+    let i = (0..bytes.len().max(wanted.len())).find(|i| bytes.get(*i) != wanted.get(*i))?;
+    let there = byte_at(bytes, i);
+    let byte = byte_at(wanted, i);
+    if are_same(there, byte) {
+        return None;
+    }
+    let (entries, strings) = (places.symtab - end, places.strtab - end);
+    Some(CheckPlace::TableByte(TableByte {
+        parts_end: end,
+        number: i as u64,
+        there,
+        wanted: byte,
+        entry: entry_at(wanted, entries as usize, strings as usize, names, i),
+    }))
 }
 
-/// Adds the count, the offset of the headers and the first byte that are others than a table asks for.
-fn add_contents<'a>(
-    alloc: Global,
-    found: &mut Found<'a>,
-    bound: &BoundLink<'_, 'a>,
-    line: SymtabLine,
-    end: u64,
-    table: &TableBytes<'a>,
-) -> Added
-    requires line { bound.now.map.symtab ≡ Some line }
-    requires end { end ≡ parts_end bound.now }
-    requires low { end ≤ 2 ^ 46 }
-    requires inside { end ≤ length bound.now.image }
-    requires built { AreBuilt (where_of bound.now) table.now [] (tabled_of bound.now) }
-    requires before { AreFailures bound.now found.old.places.items }
-    ensures { OnOk result (AreFailures bound.now found.new.places.items) }
-{
-    let Some(places) = places_for(bound, end, table) else {
-        return Ok(());
-    };
-    found.add_some(wrong_count(bound, line, entry_count(table)))?;
-    found.add_some(wrong_headers(bound, places.headers))?;
-    add_byte(alloc, found, bound, end, table, &places)
-}
-
-/// The table of the definitions of the map's symbol lines.
-fn wanted_table<'a>(
-    alloc: Global,
-    bound: &BoundLink<'_, 'a>,
-) -> Result<Option<TableBytes<'a>>, AllocError>
-    requires { HoldsBefore clause.C14 bound.now }
-    ensures { IfOk result (λ o.
-        IfSome o (λ t. AreBuilt (where_of bound.now) t [] (tabled_of bound.now))) }
-{
-    let link = bound.link();
-    let table = table_of(alloc, bound.bindings(), &link.map.symbols)?;
-    Ok(table)
-}
-
-/// Adds where the table that a line tells of is another one than it should be.
-fn add_table<'a>(
-    alloc: Global,
-    found: &mut Found<'a>,
-    bound: &BoundLink<'_, 'a>,
-    line: SymtabLine,
-) -> Added
+/// Adds what is wrong with the table that the map tells of.
+fn add_table<'a>(alloc: Global, found: &mut Found<'a>, bound: &BoundLink<'_, 'a>) -> Added
     requires clauses { HoldsBefore clause.C14 bound.now }
-    requires line { bound.now.map.symtab ≡ Some line }
+    requires told { IsSome bound.now.map.symtab }
     requires before { AreFailures bound.now found.old.places.items }
     ensures { OnOk result (AreFailures bound.now found.new.places.items) }
 {
     let end = file_end(bound.memory());
-    found.add_some(wrong_numbers(bound))?;
-    found.add_some(wrong_offset(bound, line, eight_up(end)))?;
-    match wanted_table(alloc, bound)? {
-        Some(table) => add_contents(alloc, found, bound, line, end, &table),
-        None => Ok(()),
-    }
+    let Some(choices) = choices(alloc, bound)? else {
+        return Ok(());
+    };
+    let table = table_of(alloc, bound.bindings(), &choices, &bound.link().map.symbols)?;
+    let wanted = tail_with(alloc, end, &table)?;
+    let count = entry_count(&table);
+    let Some(places) = places_if_tables(bound, &choices, end, &wanted, count) else {
+        return Ok(());
+    };
+    let bytes = tail_of(bound, end);
+    found.add_some(wrong_number(bound, NumberName::TableOffset, places.symtab))?;
+    found.add_some(wrong_number(bound, NumberName::TableCount, count))?;
+    found.add_some(wrong_number(bound, NumberName::HeadersOffset, places.headers))?;
+    found.add_some(wrong_byte(bound, end, bytes, &wanted, &places, &table.names))
 }
 
-/// Adds where what is told of a table, if it is told, is otherwise.
-fn add_told<'a>(alloc: Global, found: &mut Found<'a>, bound: &BoundLink<'_, 'a>) -> Added
-    requires clauses { HoldsBefore clause.C14 bound.now }
-    requires before { AreFailures bound.now found.old.places.items }
-    ensures { OnOk result (AreFailures bound.now found.new.places.items) }
+/// A number, where the map tells of a table, else 0.
+fn if_told(bound: &BoundLink<'_, '_>, number: u64) -> u64
+    ensures { result ≡ cond (is_some bound.now.map.symtab) number 0 }
 {
     match bound.link().map.symtab {
-        Some(line) => add_table(alloc, found, bound, line),
-        None => found.add_some(untold_sections(bound)),
+        Some(_) => number,
+        None => 0,
     }
 }
 
@@ -311,5 +226,10 @@ pub fn add_c14<'a>(alloc: Global, found: &mut Found<'a>, bound: &BoundLink<'_, '
     ensures { OnOk result (AreFailures bound.now found.new.places.items) }
 {
     found.add_some(wrongly_told(bound))?;
-    add_told(alloc, found, bound)
+    found.add_some(wrong_number(bound, NumberName::HeadersCount, if_told(bound, 4)))?;
+    found.add_some(wrong_number(bound, NumberName::NamesSection, if_told(bound, 3)))?;
+    match bound.link().map.symtab {
+        Some(_) => add_table(alloc, found, bound),
+        None => found.add_some(wrong_number(bound, NumberName::HeadersOffset, 0)),
+    }
 }

@@ -2,11 +2,15 @@
 
 use crate::found::kind_of;
 use crate::map_text::write_line;
-use crate::memory_text::{write_got, write_memory, write_relocation, write_thread};
-use crate::place::{CheckPlace, EntryPlace, Neighbours, Part, PartName};
-use check_link::{Link, Piece, Placed};
-use elf_model::{Clause, ProgramHeader};
+use crate::memory_text::{
+    write_byte, write_fill, write_got, write_number, write_relocation, write_table_byte,
+    write_thread,
+};
+use crate::place::{CheckPlace, Part};
+use check_link::{Link, Placed, base_of, entry_of};
+use elf_model::Clause;
 use input_names::{Name, ObjectName};
+use std::alloc::Global;
 use std::io::Write;
 use std::{fmt, io};
 
@@ -31,34 +35,37 @@ impl fmt::Display for ObjectText<'_> {
     }
 }
 
-/// A section, which reads as its object, its number and its name.
-#[derive(Clone, Copy)]
-pub struct SectionText<'l>(pub &'l Link<'l>, pub &'l Piece<'l>);
-
-impl fmt::Display for SectionText<'_> {
-    fn fmt<W: fmt::Write>(&self, f: &mut fmt::Formatter<W>) -> fmt::Result {
-        let (object, name) = (ObjectText(self.0, self.1.object), Name(self.1.name));
-        write!(f, "{object}: section {} {name}", self.1.section)
-    }
-}
-
-/// What a piece is: a section, or a common block, which is numbered like one of an object more than there are, and has the
-/// name that the map has at its address, with its size.
+/// What a piece is: a section, which reads as its object, its number and its name, or a common block, which is numbered like one
+/// of an object more than there are, and has the name that the map has at its address, with its size.
 #[derive(Clone, Copy)]
 pub struct PieceText<'l>(pub &'l Link<'l>, pub &'l Placed<'l>);
 
 impl fmt::Display for PieceText<'_> {
     fn fmt<W: fmt::Write>(&self, f: &mut fmt::Formatter<W>) -> fmt::Result {
-        let (link, placed) = (self.0, self.1);
-        if (placed.piece.object as usize) < link.map.objects.len() {
-            return write!(f, "{}", SectionText(link, &placed.piece));
+        let (link, at, piece) = (self.0, self.1.at, &self.1.piece);
+        if (piece.object as usize) < link.map.objects.len() {
+            let (object, name) = (ObjectText(link, piece.object), Name(piece.name));
+            return write!(f, "{object}: section {} {name}", piece.section);
         }
         f.write_str("common block ")?;
-        let size = placed.piece.header.sh_size;
+        let size = piece.header.sh_size;
         let mut lines = link.map.commons.iter();
-        match lines.find(|line| line.address == placed.at && line.size == size) {
+        match lines.find(|line| line.address == at && line.size == size) {
             Some(line) => write!(f, "{}", Name(&line.name)),
             None => Ok(()),
+        }
+    }
+}
+
+/// A piece; the GOT where there is none.
+#[derive(Clone, Copy)]
+pub struct PieceOrGot<'l>(pub &'l Link<'l>, pub &'l Option<Placed<'l>>);
+
+impl fmt::Display for PieceOrGot<'_> {
+    fn fmt<W: fmt::Write>(&self, f: &mut fmt::Formatter<W>) -> fmt::Result {
+        match self.1 {
+            Some(placed) => write!(f, "{}", PieceText(self.0, placed)),
+            None => f.write_str("the GOT"),
         }
     }
 }
@@ -69,26 +76,13 @@ struct PartText<'l>(&'l Link<'l>, &'l Part<'l>);
 
 impl fmt::Display for PartText<'_> {
     fn fmt<W: fmt::Write>(&self, f: &mut fmt::Formatter<W>) -> fmt::Result {
-        match &self.1.name {
-            PartName::Headers => f.write_str("the headers"),
-            PartName::Got => f.write_str("the GOT"),
-            PartName::Piece(placed) | PartName::Thread(placed) => {
-                write!(f, "{}", PieceText(self.0, placed))
-            }
+        match &self.1.piece {
+            None if self.1.number == 0 => f.write_str("the headers"),
+            piece => write!(f, "{}", PieceOrGot(self.0, piece)),
         }?;
         let thing = &self.1.thing;
         write!(f, " at {:#x}, {:#x} bytes", thing.at, thing.size)
     }
-}
-
-fn write_far<W: Write>(out: &mut W, link: &Link<'_>, far: &Neighbours<'_>) -> Told {
-    let (first, second) = (&far.first, &far.second);
-    let align = second.piece.header.sh_addralign;
-    let section = SectionText(link, &second.piece);
-    write!(out, "{section} at {:#x}, aligned to {align}", second.at)?;
-    let section = SectionText(link, &first.piece);
-    write!(out, ": not close after {section} at {:#x}", first.at)?;
-    write!(out, ", {:#x} bytes", first.piece.header.sh_size)
 }
 
 /// The rights that a sum of flags gives, as readelf shows them.
@@ -101,28 +95,10 @@ pub fn rights_text(rights: u64) -> &'static str {
     }
 }
 
-/// Writes in which segment a part is whole that must be in one with other rights.
-fn write_segment<W: Write>(out: &mut W, wanted: u64, segment: &Option<ProgramHeader>) -> Told {
-    let wanted = rights_text(wanted);
-    match segment {
-        Some(h) => {
-            let rights = rights_text(u64::from(h.p_flags));
-            write!(out, "in a segment with {rights}, and not {wanted}")
-        }
-        None => {
-            out.write_all(b"whole in no segment, and should be in one ")?;
-            write!(out, "with {wanted}")
-        }
-    }
-}
-
-fn write_entry<W: Write>(out: &mut W, place: &EntryPlace<'_>) -> Told {
-    write!(out, "the entry {} ", Name(place.name))?;
-    match &place.wanted {
-        Some(wanted) => {
-            let (value, e_entry) = (wanted.value, place.e_entry);
-            write!(out, "is at {value:#x}, and e_entry is {e_entry:#x}")
-        }
+fn write_entry<W: Write>(out: &mut W, link: &Link<'_>, e_entry: u64, value: Option<u64>) -> Told {
+    write!(out, "the entry {} ", Name(entry_of(&link.plan)))?;
+    match value {
+        Some(value) => write!(out, "is at {value:#x}, and e_entry is {e_entry:#x}"),
         None => out.write_all(b"has no definition outside thread-local storage"),
     }
 }
@@ -134,20 +110,39 @@ fn write_placement<W: Write>(out: &mut W, link: &Link<'_>, place: &CheckPlace<'_
             let (text, align) = (PartText(link, part), part.thing.align);
             write!(out, "{text}: not aligned to {align}")
         }
-        CheckPlace::Outside(part, base) => {
-            let text = PartText(link, part);
+        CheckPlace::Outside(part) => {
+            let (text, base) = (PartText(link, part), base_of(&link.plan));
             write!(out, "{text}: not from the base {base:#x} on and below 2^46")
         }
         CheckPlace::Shared(first, second) => {
             let (first, second) = (PartText(link, first), PartText(link, second));
             write!(out, "{first}: shares addresses with {second}")
         }
-        CheckPlace::Far(far) => write_far(out, link, far),
-        CheckPlace::Unheld(part, segment) => {
-            write!(out, "{}: ", PartText(link, part))?;
-            write_segment(out, part.thing.rights, segment)
+        CheckPlace::Far(first, second) => {
+            let (section, align) = (PieceText(link, second), second.piece.header.sh_addralign);
+            write!(
+                out,
+                "{section} at {:#x}, aligned to {align}: not close ",
+                second.at
+            )?;
+            let (section, size) = (PieceText(link, first), first.piece.header.sh_size);
+            write!(out, "after {section} at {:#x}, {size:#x} bytes", first.at)
         }
-        CheckPlace::First(address, base) => {
+        CheckPlace::Unheld(part, segment) => {
+            let (text, wanted) = (PartText(link, part), rights_text(part.thing.rights));
+            match segment {
+                Some(h) => {
+                    let rights = rights_text(u64::from(h.p_flags));
+                    write!(out, "{text}: in a segment with {rights}, and not {wanted}")
+                }
+                None => {
+                    write!(out, "{text}: whole in no segment, and should be in one ")?;
+                    write!(out, "with {wanted}")
+                }
+            }
+        }
+        CheckPlace::First(address) => {
+            let base = base_of(&link.plan);
             write!(out, "the first segment begins at {address:#x}, and ")?;
             write!(out, "not at the base {base:#x}")
         }
@@ -155,22 +150,38 @@ fn write_placement<W: Write>(out: &mut W, link: &Link<'_>, place: &CheckPlace<'_
     }
 }
 
-/// Writes a place of a failed check, without the end of the line.
+/// Writes a place of a failed check, without the end of the line; the map has this text.
+///
+/// # Errors
+///
+/// Where it can't be written, and where memory is refused.
 pub fn write_check_place<W: Write>(
+    alloc: Global,
     out: &mut W,
     link: &Link<'_>,
+    map: &[u8],
     place: &CheckPlace<'_>,
 ) -> io::Result<()> {
     match place {
         CheckPlace::Whole(clause) => write!(out, "clause C{} as a whole", *clause as u8),
-        CheckPlace::Entry(place) => write_entry(out, place),
-        CheckPlace::Table(place) => write!(out, "{place}"),
+        CheckPlace::Line(key, wanted) => write_line(alloc, out, link, map, key, wanted),
+        CheckPlace::Entry(e_entry, value) => write_entry(out, link, *e_entry, *value),
+        CheckPlace::Number(name, there, wanted) => {
+            write_number(out, link, *name, (*there, *wanted))
+        }
+        CheckPlace::Byte(place) => write_byte(out, link, place),
+        CheckPlace::TableByte(place) => write_table_byte(out, place),
+        CheckPlace::Symtab(true) => {
+            out.write_all(b"the map has a symtab line, and -s is among the words")
+        }
+        CheckPlace::Symtab(false) => {
+            out.write_all(b"the map has no symtab line, and -s is not among the words")
+        }
         _ => match kind_of(place) {
-            Clause::C2 | Clause::C3 | Clause::C13 => write_line(out, link, place),
             Clause::C7 => write_got(out, link, place),
             Clause::C8 => write_thread(out, link, place),
             Clause::C9 => write_relocation(out, link, place),
-            Clause::C10 | Clause::C11 => write_memory(out, link, place),
+            Clause::C11 => write_fill(out, place),
             _ => write_placement(out, link, place),
         },
     }

@@ -1,17 +1,17 @@
 //! C8: the block of thread-local storage that isn't as the placed pieces ask for it.
-ghost use Rattle.std.specs.Prelude.{◌≡◌, IfSome, OnOk, Some};
-ghost use Rattle.std.proofs.Props.{props};
+ghost use Rattle.std.specs.Prelude.{◌≡◌, IfSome, OnOk, Some, false};
 ghost use Rattle.std.specs.List.{slice_get};
 ghost use Rattle.elf_model.specs.Image.MemoryImage.{thread_blocks};
 ghost use Rattle.elf_model.specs.Image.RightLink.{HoldsBefore, placed_of, thread_data_end};
 ghost use Rattle.elf_model.specs.Link.ThreadStorage.{thread_headers};
 ghost use Rattle.elf_model.specs.declared.verdict.Clause.TheVariants as clause;
-ghost use Rattle.check_link.specs.PieceParts.{AreInLimit, IsGotInLimit};
-ghost use Rattle.check_link.specs.Views.{placed_views};
+ghost use Rattle.check_link.specs.PieceParts.{AreInLimit, IsGotInLimit, IsInLimit};
+ghost use Rattle.check_link.specs.Views.{placed_view, placed_views};
+ghost use Rattle.explain_check.specs.PlacementPlaces.{IsInnerPiece};
 ghost use Rattle.explain_check.specs.Places.{AreFailures, FailsIn};
 
 use crate::bytes::piece_at;
-use crate::found::{Added, Found, Judge, add_all};
+use crate::found::{Added, Found};
 use crate::place::{CheckPlace, Failure};
 use check_link::{
     Part, Placed, base_of, end_of, got_thing, is_thread_zero, thing_of_placed, thread_block,
@@ -19,26 +19,6 @@ use check_link::{
 use checker::BoundLink;
 use checker::c08_thread_block::{are_headers_right, header_of, holds_initial, is_clear_of};
 use elf_model::ProgramHeader;
-
-/// A link whose thread-local pieces with bytes end at an address.
-#[derive(Drop)]
-struct ThreadBlock<'b, 'o, 'a> {
-    bound: &'b BoundLink<'o, 'a>,
-    end: u64,
-    ghost got: { IsGotInLimit bound.now.map.got } by { Prim.hlevel props },
-    ghost pieces: { AreInLimit (placed_of bound.now) },
-    ghost data_end: { end ≡ thread_data_end bound.now },
-}
-
-/// What is judged: the PT_TLS header, pieces without bytes, and whether the GOT, other pieces and no PT_LOAD have initial bytes.
-#[derive(Clone, Copy)]
-enum Kind {
-    Header,
-    Zeros,
-    Got,
-    Piece,
-    Held,
-}
 
 /// The PT_TLS header that placed pieces ask for, in an image that begins at the base; None without thread-local ones.
 fn wanted_header(base: u64, placed: &[Placed<'_>]) -> Option<ProgramHeader>
@@ -52,10 +32,10 @@ fn wanted_header(base: u64, placed: &[Placed<'_>]) -> Option<ProgramHeader>
 }
 
 /// The PT_TLS header that is there and the wanted one, where they differ.
-fn wrong_header<'a>(block: &ThreadBlock<'_, '_, 'a>) -> Failure<'a>
-    ensures { IfSome result (FailsIn block.now.bound.now) }
+fn wrong_header<'a>(bound: &BoundLink<'_, 'a>) -> Failure<'a>
+    requires { AreInLimit (placed_of bound.now) }
+    ensures { IfSome result (FailsIn bound.now) }
 {
-    let bound = block.bound;
     let headers = bound.memory().thread_blocks();
     let base = base_of(&bound.link().plan);
     if are_headers_right(headers, base, bound.placed()) {
@@ -65,20 +45,6 @@ fn wrong_header<'a>(block: &ThreadBlock<'_, '_, 'a>) -> Failure<'a>
     Some(CheckPlace::ThreadHeader(headers.get(0).copied(), wanted))
 }
 
-/// The piece that has a number, where it is thread-local, has no bytes, and begins before those with bytes end.
-fn early_zeros<'a>(block: &ThreadBlock<'_, '_, 'a>, number: usize) -> Failure<'a>
-    ensures { IfSome result (FailsIn block.now.bound.now) }
-{
-    let placed = piece_at(block.bound, number)?;
-    if !is_thread_zero(&placed.piece) {
-        return None;
-    }
-    if placed.at >= block.end {
-        return None;
-    }
-    Some(CheckPlace::ThreadZeros(number as u64, placed, block.end))
-}
-
 /// The PT_TLS header of the image.
 fn header_there(bound: &BoundLink<'_, '_>) -> Option<ProgramHeader>
     ensures { IfSome result (λ h. slice_get (thread_blocks bound.now.image) 0 ≡ Some h) }
@@ -86,31 +52,44 @@ fn header_there(bound: &BoundLink<'_, '_>) -> Option<ProgramHeader>
     bound.memory().thread_blocks().get(0).copied()
 }
 
-/// The GOT, where it has an address from the beginning of the block on and below the end of its initial bytes.
-fn inner_got<'a>(block: &ThreadBlock<'_, '_, 'a>) -> Failure<'a>
-    ensures { IfSome result (FailsIn block.now.bound.now) }
+/// The GOT, where it has an address from the beginning of the block on and below `end`, the end of its initial bytes.
+fn inner_got<'a>(bound: &BoundLink<'_, 'a>, end: u64) -> Failure<'a>
+    requires got { IsGotInLimit bound.now.map.got }
+    requires data_end { end ≡ thread_data_end bound.now }
+    ensures { IfSome result (FailsIn bound.now) }
 {
-    let header = header_there(block.bound)?;
-    let got = block.bound.link().map.got?;
-    if is_clear_of(header.p_vaddr, block.end, &got_thing(got)) {
+    let start = header_there(bound)?.p_vaddr;
+    let got = bound.link().map.got?;
+    if is_clear_of(start, end, &got_thing(got)) {
         return None;
     }
-    Some(CheckPlace::GotInThreadBlock(got, header.p_vaddr, block.end))
+    Some(CheckPlace::InThreadBlock(None, got.address, start, end))
 }
 
-/// The piece that has a number, where it isn't thread-local and has such an address.
-fn inner_piece<'a>(block: &ThreadBlock<'_, '_, 'a>, number: usize) -> Failure<'a>
-    ensures { IfSome result (FailsIn block.now.bound.now) }
+/// Whether a piece that isn't thread-local has no address from `start` on and below `end`, and one of thread-local zeros
+/// begins there or later.
+fn is_out_of(start: u64, end: u64, placed: &Placed<'_>) -> bool
+    requires { IsInLimit (placed_view placed.now) }
+    ensures { result ≡ false → IsInnerPiece start end (placed_view placed.now) }
 {
-    let header = header_there(block.bound)?;
-    let placed = piece_at(block.bound, number)?;
     if placed.piece.header.is_thread_local() {
+        return !is_thread_zero(&placed.piece) || end <= placed.at;
+    }
+    is_clear_of(start, end, &thing_of_placed(placed))
+}
+
+/// The piece that has a number, where it stands among the block's initial bytes, or before their end if it has none.
+fn inner_piece<'a>(bound: &BoundLink<'_, 'a>, end: u64, number: usize) -> Failure<'a>
+    requires pieces { AreInLimit (placed_of bound.now) }
+    requires data_end { end ≡ thread_data_end bound.now }
+    ensures { IfSome result (FailsIn bound.now) }
+{
+    let start = header_there(bound)?.p_vaddr;
+    let placed = piece_at(bound, number)?;
+    if is_out_of(start, end, &placed) {
         return None;
     }
-    if is_clear_of(header.p_vaddr, block.end, &thing_of_placed(&placed)) {
-        return None;
-    }
-    Some(CheckPlace::PieceInThreadBlock(number as u64, placed, header.p_vaddr, block.end))
+    Some(CheckPlace::InThreadBlock(Some(placed), placed.at, start, end))
 }
 
 /// A block whose initial bytes no PT_LOAD holds.
@@ -124,20 +103,6 @@ fn unheld<'a>(bound: &BoundLink<'_, 'a>) -> Failure<'a>
     Some(CheckPlace::ThreadBytes(header))
 }
 
-impl<'a> Judge<'a, Kind> for ThreadBlock<'_, '_, 'a> {
-    ghost subject = { λ b. b.bound.now };
-
-    fn judge(&self, kind: Kind, number: usize) -> Failure<'a> {
-        match kind {
-            Kind::Header => wrong_header(self),
-            Kind::Zeros => early_zeros(self, number),
-            Kind::Got => inner_got(self),
-            Kind::Piece => inner_piece(self, number),
-            Kind::Held => unheld(self.bound),
-        }
-    }
-}
-
 /// Adds where the eighth clause fails.
 pub fn add_c8<'a>(found: &mut Found<'a>, bound: &BoundLink<'_, 'a>) -> Added
     requires clauses { HoldsBefore clause.C8 bound.now }
@@ -145,11 +110,10 @@ pub fn add_c8<'a>(found: &mut Found<'a>, bound: &BoundLink<'_, 'a>) -> Added
     ensures { OnOk result (AreFailures bound.now found.new.places.items) }
 {
     let end = end_of(Part::ThreadData, bound.placed());
-    let block = ThreadBlock { bound, end };
-    let count = bound.placed().len();
-    add_all(found, &block, Kind::Header, 1)?;
-    add_all(found, &block, Kind::Zeros, count)?;
-    add_all(found, &block, Kind::Got, 1)?;
-    add_all(found, &block, Kind::Piece, count)?;
-    add_all(found, &block, Kind::Held, 1)
+    found.add_some(wrong_header(bound))?;
+    found.add_some(inner_got(bound, end))?;
+    for number in 0..bound.placed().len() {
+        found.add_some(inner_piece(bound, end, number))?;
+    }
+    found.add_some(unheld(bound))
 }

@@ -134,9 +134,15 @@ fn link<W: Write>(
 }
 
 /// Writes the places at which the check of a link fails, a line each, and how many more there are.
-fn write_failures<W: Write>(out: &mut W, link: &Link<'_>, found: &Found<'_>) -> io::Result<()> {
+fn write_failures<W: Write>(
+    alloc: Global,
+    out: &mut W,
+    link: &Link<'_>,
+    map: &[u8],
+    found: &Found<'_>,
+) -> io::Result<()> {
     for place in found.places() {
-        write_check_place(out, link, place)?;
+        write_check_place(alloc, out, link, map, place)?;
         out.write_all(b"\n")?;
     }
     write_more(out, found.more())
@@ -233,6 +239,7 @@ fn link_failures(
     alloc: Global,
     words: &[String],
     link: &Link<'_>,
+    map: &[u8],
     clause: Clause,
 ) -> io::Result<Vec<u8>> {
     let found = explain_check(alloc, link, MOST)?;
@@ -241,7 +248,7 @@ fn link_failures(
         text = input_reasons(alloc, link.files, words, clause)?;
     }
     if text.is_empty() {
-        write_failures(&mut text, link, &found)?;
+        write_failures(alloc, &mut text, link, map, &found)?;
     }
     Ok(text)
 }
@@ -262,7 +269,7 @@ fn failures(
         Clause::C4 => write_image_fault(alloc, &mut text, plan, image)?,
         _ => {
             if let Some(link) = read_link(alloc, files, words, image, map)? {
-                return link_failures(alloc, words, &link, clause);
+                return link_failures(alloc, words, &link, map, clause);
             }
         }
     }

@@ -50,7 +50,7 @@ static FILLS: [Row; 4] = [
     (
         GAPPED,
         Change::Image(0x100a, 0),
-        "0x40100a: 0x00 is in no section, and should be 0x90 in a segment with R E\n",
+        "0x40100a, in no section and in a segment with R E, is 0x00, and should be 0x90\n",
     ),
     (
         WITH_DATA,
@@ -61,7 +61,7 @@ static FILLS: [Row; 4] = [
         WITH_DATA,
         Change::Image(0xd0, 7),
         "segment 2 at 0x402000: its file part ends at 0x402007, and should end at 0x402008\n\
-         the image has 0x2008 bytes, and its last file part ends at 0x2007\n",
+         the size of the image, up to the end of its last file part, is 0x2008, and should be 0x2007\n",
     ),
     (
         WITH_DATA,

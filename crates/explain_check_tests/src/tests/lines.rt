@@ -11,12 +11,12 @@ use std::test::Fail;
 /// Files, a change of their link without a symbol table, and the lines of where its check fails.
 pub type Row = (&'static [File], Change, &'static str);
 
-/// The lines of where the check of a link fails, so many at most, and how many more places there are.
-fn places_of(alloc: Global, link: &Link<'_>, most: usize) -> Result<String, Fail> {
+/// The lines of where the check of a link fails, whose map has this text, so many at most, and how many more places there are.
+fn places_of(alloc: Global, link: &Link<'_>, map: &[u8], most: usize) -> Result<String, Fail> {
     let found = explain_check(alloc, link, most)?;
     let mut lines = Vec::new(alloc);
     for place in found.places() {
-        write_check_place(&mut lines, link, place)?;
+        write_check_place(alloc, &mut lines, link, map, place)?;
         lines.push(b'\n')?;
     }
     let mut lines = String::from_utf8(lines)?;
@@ -37,7 +37,7 @@ pub fn lines_of(
     most: usize,
 ) -> Result<String, Fail> {
     let link = read_link(alloc, files, words, image, map)?.ok_or("no link")?;
-    places_of(alloc, &link, most)
+    places_of(alloc, &link, map, most)
 }
 
 /// The lines of where the check of a changed link fails, so many at most, and how many more places there are.

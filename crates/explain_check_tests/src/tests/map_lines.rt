@@ -36,27 +36,27 @@ static SECTION_LINES: [Row; 6] = [
     (
         PLAIN,
         Change::Text(" 9 0 1 .text", " 8 0 1 .texu"),
-        "line 3 of the map: place 0000000000401000 8 0 1 .texu: should end with 9 0 1 .text\n",
+        "line 3 of the map: place 0000000000401000 8 0 1 .texu: should be place 0000000000000000 9 0 1 .text, at any address\n",
     ),
     (
         TWO,
         Change::Text("place 0000000000401009 9 1 1 .text\n", ""),
-        "the map lacks a place line that ends with 9 1 1 .text\n",
+        "the map lacks: place 0000000000000000 9 1 1 .text, at any address\n",
     ),
     (
         PLAIN,
         Change::Text(".text\n", ".text\ncommon 0000000000402000 8 8 c\n"),
-        "the map's line common 0000000000402000 8 8 c: the name has no common block\n",
+        "line 4 of the map: common 0000000000402000 8 8 c: the name has no common block\n",
     ),
     (
         WITH_COMMON,
         Change::Text("8 8 c\n", "8 4 c\n"),
-        "the map's line common 0000000000402000 8 4 c: should end with 8 8 c\n",
+        "line 4 of the map: common 0000000000402000 8 4 c: should be common 0000000000000000 8 8 c, at any address\n",
     ),
     (
         WITH_COMMON,
         Change::Text("common 0000000000402000 8 8 c\n", ""),
-        "the map lacks a common line that ends with 8 8 c\n",
+        "the map lacks: common 0000000000000000 8 8 c, at any address\n",
     ),
 ];
 

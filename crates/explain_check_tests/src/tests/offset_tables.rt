@@ -17,7 +17,7 @@ static GOTS: [Row; 7] = [
         LOADING,
         Change::Text(SLOT, "got 0000000000402008 16\n"),
         "a.o: .text+0x3: relocation 0 of section 5, R_X86_64_REX_GOTPCRELX, to symbol 2 v: no line of the map has its slot\n\
-         the GOT at 0x402008 has 0x10 bytes, and should have 0x8\n",
+         the map's got line: the size is 16, and should be 8\n",
     ),
     (
         LOADING,
@@ -25,7 +25,7 @@ static GOTS: [Row; 7] = [
             SLOT,
             "got 0000000000402008 16\nslot 0000000000402008 value name v\n",
         ),
-        "line 6 of the map: the slot at 0x402008 should be at 0x402010\n",
+        "line 6 of the map: the address of the slot is 0x402008, and should be 0x402010\n",
     ),
     (
         LOADING,
@@ -33,8 +33,8 @@ static GOTS: [Row; 7] = [
             SLOT,
             "got 0000000000402008 16\nslot 0000000000402010 thread name v\n",
         ),
-        "line 6 of the map: no relocation asks for this slot\n\
-         a.o: .text+0x3: relocation 0 of section 5, R_X86_64_REX_GOTPCRELX, to symbol 2 v: no line of the map has its slot\n",
+        "a.o: .text+0x3: relocation 0 of section 5, R_X86_64_REX_GOTPCRELX, to symbol 2 v: no line of the map has its slot\n\
+         line 6 of the map: no relocation asks for this slot\n",
     ),
     (
         LOADING,
@@ -42,10 +42,10 @@ static GOTS: [Row; 7] = [
             SLOT,
             "got 0000000000402008 16\nslot 0000000000402008 value name v\nslot 0000000000402010 value name v\n",
         ),
-        "line 7 of the map: the slot of line 6 again\n\
-         the GOT at 0x402008 has 0x10 bytes, and should have 0x18\n\
-         line 6 of the map: the slot at 0x402008 should be at 0x402010\n\
-         line 7 of the map: the slot at 0x402010 should be at 0x402018\n",
+        "the map's got line: the size is 16, and should be 24\n\
+         line 6 of the map: the address of the slot is 0x402008, and should be 0x402010\n\
+         line 7 of the map: the slot of line 6 again\n\
+         line 7 of the map: the address of the slot is 0x402010, and should be 0x402018\n",
     ),
     (
         LOADING,

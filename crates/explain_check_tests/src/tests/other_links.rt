@@ -61,7 +61,7 @@ static OTHERS: [Row; 3] = [
         b"ldmap 2\nobject 0 0 0 a.o\nplace 0000000000401000 9 0 1 .text\nplace 0000000000402000 8 0 2 .data\n\
           got 0000000000402008 0\nsymbol 0000000000401000 strong 0 1 _start\nend\n",
         "the map has a GOT, for which no relocation asks\n\
-         the GOT at 0x402008 has 0x0 bytes, and should have 0x8\n",
+         the map's got line: the size is 0, and should be 8\n",
     ),
     (
         WITH_EARLY,

@@ -28,28 +28,29 @@ const TOLD: Row = (
     PLAIN,
     Change::Text("end\n", "symtab 4112 2\nend\n"),
     "the map has a symtab line, and -s is among the words\n\
-     the file header: e_shnum is 0 and should be 4, e_shstrndx is 0 and should be 3\n\
+     the file header: e_shnum is 0, and should be 4\n\
+     the file header: e_shstrndx is 0, and should be 3\n\
      the file header: e_shoff is 0x0, and should be 0x1068\n\
-     the image at byte 0x1009, after its last segment: the end of the file, and should be 0x00\n",
+     the image at byte 0x1009, after its last segment, is the end of the file, and should be 0x00\n",
 );
 
 /// The offset and the count of a line; a byte of an entry and one of a name; `e_shoff`.
 static TABLES: [(Change, &str); 5] = [
     (
         Change::Text("symtab 4112 2", "symtab 4120 2"),
-        "the map's symtab line says offset 4120, and should say 4112\n",
+        "the map's symtab line: the offset is 4120, and should be 4112\n",
     ),
     (
         Change::Text("symtab 4112 2", "symtab 4112 3"),
-        "the map's symtab line says 3 entries, and should say 2\n",
+        "the map's symtab line: the number of entries is 3, and should be 2\n",
     ),
     (
         Change::Image(4144, 1),
-        "the image at byte 0x1030, after its last segment, in entry 1 of the symbol table, of _start: 0x01, and should be 0x00\n",
+        "the image at byte 0x1030, after its last segment, in entry 1 of the symbol table, of _start, is 0x01, and should be 0x00\n",
     ),
     (
         Change::Image(4161, 0x78),
-        "the image at byte 0x1041, after its last segment: 0x78, and should be 0x5f\n",
+        "the image at byte 0x1041, after its last segment, is 0x78, and should be 0x5f\n",
     ),
     (
         Change::Image(40, 0x60),
@@ -66,13 +67,13 @@ fn symbol_tables_are_explained(rt: HostRuntime) -> Result<(), Fail> {
     assert_rows(&rt, &[TOLD])
 }
 
-/// How many lines of four are told.
+/// How many lines of five are told.
 static COUNTED: [(usize, &str); 2] = [
-    (0, "and 4 more\n"),
+    (0, "and 5 more\n"),
     (
         1,
         "the map has a symtab line, and -s is among the words\n\
-         and 3 more\n",
+         and 4 more\n",
     ),
 ];
 

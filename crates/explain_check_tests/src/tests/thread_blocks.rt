@@ -60,12 +60,12 @@ static THREAD_BLOCKS: [Row; 6] = [
         Change::Text("place 0000000000402008", "place 0000000000401ff8"),
         "PT_TLS: at 0x402000, file offset 0x2000, 0x4 bytes in the file and 0xc in memory, alignment 0x8; it should be: \
          at 0x401ff8, file offset 0x1ff8, 0xc bytes in the file and 0xc in memory, alignment 0x8\n\
-         a.o: section 3 .tbss at 0x401ff8 begins before the thread-local bytes end, at 0x402004\n",
+         a.o: section 3 .tbss at 0x401ff8 begins before the end of the thread-local bytes, from 0x402000 to 0x402004\n",
     ),
     (
         WITH_ROOM,
         Change::Text("place 0000000000402028", "place 0000000000402008"),
-        "a.o: section 4 .data at 0x402008 is among the thread-local bytes, from 0x402000 to 0x402024\n",
+        "a.o: section 4 .data at 0x402008 begins before the end of the thread-local bytes, from 0x402000 to 0x402024\n",
     ),
     (
         ROOM_AND_SLOT,
@@ -73,7 +73,7 @@ static THREAD_BLOCKS: [Row; 6] = [
             "got 0000000000402028 16\nslot 0000000000402030",
             "got 0000000000402008 16\nslot 0000000000402010",
         ),
-        "the GOT at 0x402008 is among the thread-local bytes, from 0x402000 to 0x402024\n",
+        "the GOT at 0x402008 begins before the end of the thread-local bytes, from 0x402000 to 0x402024\n",
     ),
 ];
 

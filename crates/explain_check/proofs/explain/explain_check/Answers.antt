@@ -17,21 +17,21 @@ pub returns-clause-fails : goal.returns-clause-fails
 returns-clause-fails c =
     let s = c.args.link.now in
     let verdict = rw c.in-No.is at c.in_ok-judge.ensures.verdict in
-    let of = c.or_clause.ensures.of s (c.in_ok-told-in-No.ensures.of s c.in_ok-judge.ensures.saw) verdict.1 in
-    each (IsOf s c.in-No.clause) (FailsIn s) c.or_clause.result of (λ p o. o.fails)
+    let of = c.of_clause.ensures.of s c.in_ok-judge.ensures.saw verdict.1 in
+    each (IsOf s c.in-No.clause) (FailsIn s) c.of_clause.result of (λ p o. o.fails)
 
 pub returns-clause-first : goal.returns-clause-first
 returns-clause-first c =
     let s = c.args.link.now in
     let verdict = rw c.in-No.is at c.in_ok-judge.ensures.verdict in
-    let of = c.or_clause.ensures.of s (c.in_ok-told-in-No.ensures.of s c.in_ok-judge.ensures.saw) verdict.1 in
-    each (IsOf s c.in-No.clause) (λ p. IsFirst s (clause_of p)) c.or_clause.result of
+    let of = c.of_clause.ensures.of s c.in_ok-judge.ensures.saw verdict.1 in
+    each (IsOf s c.in-No.clause) (λ p. IsFirst s (clause_of p)) c.of_clause.result of
     (λ p o. subst (IsFirst s) (sym o.clause) (record { before = verdict.0; fails = verdict.1 }))
 
 pub returns-clause-read : goal.returns-clause-read
 returns-clause-read c = λ words bytes read.
     let s = c.args.link.now in
     let verdict = rw c.in-No.is at c.in_ok-judge.ensures.verdict in
-    let of = c.or_clause.ensures.of s (c.in_ok-told-in-No.ensures.of s c.in_ok-judge.ensures.saw) verdict.1 in
-    each (IsOf s c.in-No.clause) (FailsAt s.files words s.image bytes) c.or_clause.result of
+    let of = c.of_clause.ensures.of s c.in_ok-judge.ensures.saw verdict.1 in
+    each (IsOf s c.in-No.clause) (FailsAt s.files words s.image bytes) c.of_clause.result of
     (λ p o. record { plan = s.plan; map = s.map; read = read; fails = o.fails })

@@ -1,17 +1,17 @@
-use Rattle.std.proofs.Common.{◌≡◌, ℕ, List, Some, subst}
+use Rattle.std.proofs.Common.{◌∙◌, List, Some, ap, option_map, subst, sym, ℕ}
 use Rattle.std.specs.Prelude.{All}
 use Rattle.elf_model.specs.Image.MemoryImage.{memory_of}
 use Rattle.elf_model.specs.Link.Placement.{Covers}
 use Rattle.elf_model.specs.declared.thing.Thing.{Thing}
+use Rattle.loader_model.specs.Rights as loader
 use Rattle.explain_check.proofs.fill.wrong_fill.Goals as goal
 
-pub returns : goal.returns
-returns c =
-    let a = c.args.address in
-    let cell = c.in_ok-cell.cell in
-    let wanted = c.fill_of-wanted.ensures in record {
-      there = subst (λ (image : List ℕ). memory_of image a ≡ Some (record { byte = cell.0; rights = cell.1 })) c.memory.ensures c.in_ok-cell.ensures;
+pub wrong_byte-requires-clause-wanted : goal.wrong_byte-requires-clause-wanted
+wrong_byte-requires-clause-wanted c =
+    let a = c.args.address in record {
+      rights_are =
+          ap (λ (image : List ℕ). option_map (λ x. x.rights) (memory_of image a)) (sym c.memory.ensures)
+          ∙ (sym c.rights.ensures ∙ (ap (option_map loader.rights_sum) c.in_ok-rights.was ∙ ap Some (sym c.rights_sum-rights.ensures)));
       outside = subst (All (λ (t : Thing). ¬ Covers t a)) c.things.ensures (c.is_outside.ensures.0 c.if-not-is_outside.false);
-      wanted = wanted;
-      wrong = subst (λ (n : ℕ). ¬ (cell.0 ≡ n)) wanted c.if-cell-wanted.false;
+      wanted_is = c.fill_of.ensures;
     }

@@ -12,6 +12,6 @@ pub returns : goal.returns
 returns c =
     let q = c.in_ok-request.request in
     let p = c.in_ok-place.place in
-    let r = relocation_of c.in_ok-at.at.now.object (loaded_view c.in_ok-one.one.now) p.section p.entry in
-    is_unserved c.args.slots.now.bound.now p r q c.in_ok-place.ensures.at (sym (c.in_ok-request.ensures p.section))
+    let r = relocation_of c.args.at.now.object (loaded_view c.in_ok-one.one.now) p.section p.entry in
+    is_unserved c.args.bound.now p r q c.in_ok-place.ensures.at (sym (c.in_ok-request.ensures p.section))
     (ap (λ (rows : List SlotRow). list_any (is_slot_of (request_view q)) rows) (sym c.slots.ensures) ∙ sym c.has.ensures ∙ c.if-has.false)

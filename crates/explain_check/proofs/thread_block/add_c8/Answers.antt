@@ -8,9 +8,16 @@ use Rattle.explain_check.proofs.thread_block.add_c8.Goals as goal
 pub end_of-end-requires : goal.end_of-end-requires
 end_of-end-requires c = in_limit c.args.bound.now c.placed.result.now c.placed.ensures (c.requires.clauses C5 (omega arith))
 
-pub invariant_of-block-clause-got : goal.invariant_of-block-clause-got
-invariant_of-block-clause-got c = got_in_limit c.args.bound.now (c.requires.clauses C5 (omega arith))
-
-pub invariant_of-block-clause-pieces : goal.invariant_of-block-clause-pieces
-invariant_of-block-clause-pieces c =
+pub wrong_header-requires : goal.wrong_header-requires
+wrong_header-requires c =
     subst AreInLimit c.placed.ensures (in_limit c.args.bound.now c.placed.result.now c.placed.ensures (c.requires.clauses C5 (omega arith)))
+
+pub inner_got-requires-clause-got : goal.inner_got-requires-clause-got
+inner_got-requires-clause-got c = got_in_limit c.args.bound.now (c.requires.clauses C5 (omega arith))
+
+pub inner_piece-requires-clause-pieces : goal.inner_piece-requires-clause-pieces
+inner_piece-requires-clause-pieces c =
+    subst AreInLimit c.placed.ensures (in_limit c.args.bound.now c.placed.result.now c.placed.ensures (c.requires.clauses C5 (omega arith)))
+
+pub returns : goal.returns
+returns c = c.add_some-3.ensures c.args.bound.now c.loop-number.invariant c.unheld.ensures
