@@ -1,5 +1,5 @@
 -- What a map and its lines say, as they are read in place.
-use Rattle.std.specs.Prelude.{ℕ, List, map}
+use Rattle.std.specs.Prelude.{map}
 use Rattle.std.specs.Cow.{cow_slice_items}
 use Rattle.elf_model.specs.Image.MapRecord.{CommonRow, MapRecord, ObjectRow, OfLocal, OfName, PlaceRow, SlotRow, SymbolRow, TargetRow}
 use Rattle.linkmap.specs.declared.borrowed.BorrowedCommon.{BorrowedCommon}
