@@ -6,9 +6,10 @@ ghost use Rattle.check_relocs.specs.KnownTargets.{AreTargetsKnown, IsKnownTarget
 ghost use Rattle.check_relocs.specs.Referrers.{symbol_here};
 ghost use Rattle.check_relocs.specs.declared.known_targets.KnownTarget.TheVariants as known;
 
+use crate::answers::room_for_symbols;
 use crate::referrer::Referrer;
-use crate::targets::{Target, has_relas, own_target_of};
-use check_load::{Loaded, filled};
+use crate::targets::{Target, own_target_of};
+use check_load::Loaded;
 use std::alloc::{AllocError, Global};
 
 /// What is known of a symbol: nothing, or what it means. It is told apart whether it is a plain one: one that doesn't lack a
@@ -21,15 +22,11 @@ pub enum KnownTarget {
     Other(Target),
 }
 
-/// Where what symbols mean will be kept once it is known, of none yet; no room where the object has no relocations.
+/// Where what symbols mean will be kept once it is known, of none yet.
 pub fn unknown_targets(alloc: Global, loaded: &Loaded<'_>) -> Result<Vec<KnownTarget>, AllocError>
     ensures { IfOk result (λ v. (j : ℕ) → slice_index_or v.items j known.Unknown ≡ known.Unknown) }
 {
-    if !has_relas(loaded) {
-        return Ok(Vec::new(alloc));
-    }
-    let targets = filled(alloc, KnownTarget::Unknown, loaded.object.symbols().len())?;
-    Ok(targets)
+    room_for_symbols(alloc, loaded, KnownTarget::Unknown)
 }
 
 /// Whether what a symbol means is plain.

@@ -8,12 +8,13 @@ ghost use Rattle.check_relocs.specs.Kinds.{kind_view};
 ghost use Rattle.check_relocs.specs.KnownSlots.{AreSlots, request_here, rows_here};
 ghost use Rattle.check_relocs.specs.Referrers.{relocation_here};
 
+use crate::answers::room_for_symbols;
 use crate::entry_requests::{slot_kind_of, target_at};
 use crate::kinds::Kind;
 use crate::referrer::Referrer;
-use crate::targets::{has_relas, is_local_at};
+use crate::targets::is_local_at;
 use check_link::{Request, is_thread};
-use check_load::{KeptRelocation, Loaded, filled};
+use check_load::{KeptRelocation, Loaded};
 use std::alloc::{AllocError, Global};
 
 /// A slot of a symbol: whether it is for the offset from the thread pointer, else for the value, and its address, 0 where
@@ -24,18 +25,14 @@ pub struct SymbolSlot {
     pub address: u64,
 }
 
-/// Where slots of the symbols of an object will be kept, of none yet; no room where the object has no relocations.
+/// Where slots of the symbols of an object will be kept, of none yet.
 pub fn unknown_slots(
     alloc: Global,
     loaded: &Loaded<'_>,
 ) -> Result<Vec<Option<SymbolSlot>>, AllocError>
     ensures { IfOk result (λ v. (j : ℕ) → known_at v.items j ≡ None) }
 {
-    if !has_relas(loaded) {
-        return Ok(Vec::new(alloc));
-    }
-    let slots = filled(alloc, None, loaded.object.symbols().len())?;
-    Ok(slots)
+    room_for_symbols(alloc, loaded, None)
 }
 
 /// Keeps a slot of symbol `j`, where there is room for it.
