@@ -16,7 +16,7 @@ use Rattle.check_link.specs.Chosen.{AreHinted, IsHinted, hint_at}
 use Rattle.check_link.specs.Views.{symbol_view}
 use Rattle.check_link.specs.declared.things.SymbolOf as code
 use Rattle.check_link.proofs.AtNumbers.{each_symbol}
-use Rattle.check_link.specs.DefinitionList.{name_in, ref_of}
+use Rattle.check_link.specs.DefinitionList.{name_in, ref_of, unnamed}
 use Rattle.elf_model.specs.declared.references.SymbolRef.{SymbolRef}
 
 -- what is kept stays right as names come
@@ -106,10 +106,10 @@ pub hint_told :
 hint_told names objects k j None are is = tt
 hint_told names objects k j (Some n) are is = λ o at. hinted_name names objects k j n o are at (sym is)
 
--- the definition of the symbol's name is told
+-- the definition of the symbol's name is told, without the name
 pub choice_told :
     (L : List LoadedObject) (k j : ℕ) (r : Option code.SymbolOf) →
-    ((o : LoadedObject) → slice_get L k ≡ Some o → option_map symbol_view r ≡ chosen L (name_at o.bytes j)) →
-    IfSome r (λ s. (o : LoadedObject) → slice_get L k ≡ Some o → chosen L (name_at o.bytes j) ≡ Some (symbol_view s))
+    ((o : LoadedObject) → slice_get L k ≡ Some o → option_map symbol_view r ≡ option_map unnamed (chosen L (name_at o.bytes j))) →
+    IfSome r (λ s. (o : LoadedObject) → slice_get L k ≡ Some o → option_map unnamed (chosen L (name_at o.bytes j)) ≡ Some (symbol_view s))
 choice_told L k j None is = tt
 choice_told L k j (Some s) is = λ o at. sym (is o at)

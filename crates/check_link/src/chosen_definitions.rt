@@ -9,7 +9,7 @@ ghost use Rattle.check_load.specs.NameNumbers.{KeepNumbers, number_of, with_name
 ghost use Rattle.check_load.specs.Numbered.{AreNumbered};
 ghost use Rattle.check_load.specs.Views.{loaded_views};
 ghost use Rattle.check_link.specs.Chosen.{AreChosen, AreHinted, AreOwnIn, HaveMarks, IsOwn, IsSized, definition_in, first_from, hint_at, is_found, is_of_rank, marked_by, position_at, position_in};
-ghost use Rattle.check_link.specs.DefinitionList.{name_in};
+ghost use Rattle.check_link.specs.DefinitionList.{name_in, unnamed};
 ghost use Rattle.check_link.specs.Views.{symbol_view};
 
 use crate::definition_list::Definitions;
@@ -223,6 +223,20 @@ pub fn definition_at<'a>(
 {
     let position = position_at(&index.positions, number)?;
     definitions.get(position)
+}
+
+/// The same without its name, which isn't read.
+pub fn unnamed_at<'a>(
+    index: &Chosen<'a>,
+    definitions: &Definitions<'_, 'a>,
+    number: usize,
+) -> Option<SymbolOf<'a>>
+    ensures { option_map symbol_view result ≡ option_map unnamed
+        (option_and_then (slice_get definitions.now)
+        (position_at index.now.positions.items number)) }
+{
+    let position = position_at(&index.positions, number)?;
+    definitions.unnamed(position)
 }
 
 /// Whether an index has a definition for the name that has a number. It isn't read.

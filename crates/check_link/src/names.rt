@@ -8,12 +8,13 @@ ghost use Rattle.elf_model.specs.Link.Resolution.{AreSoundCommons, all_symbols, 
 ghost use Rattle.check_load.specs.Numbered.{AreNumbered, name_at};
 ghost use Rattle.check_load.specs.Views.{loaded_views};
 ghost use Rattle.check_link.specs.Chosen.{AreChosen, AreOtherChoices, AreOwnChoices, IsSized};
+ghost use Rattle.check_link.specs.DefinitionList.{unnamed};
 ghost use Rattle.check_link.specs.NameIndex.{IsBlockIndex};
 ghost use Rattle.check_link.specs.Views.{block_view, block_views, meaning_view, symbol_view};
 
 use crate::chosen_definitions::{
-    Chosen, definition_at, definition_of, has_definition, index_names, is_chosen, number_at,
-    own_choices,
+    Chosen, definition_of, has_definition, index_names, is_chosen, number_at, own_choices,
+    unnamed_at,
 };
 use crate::commons::{are_sound_commons, blocks_of, index_blocks};
 use crate::definition_list::Definitions;
@@ -136,14 +137,14 @@ impl<'l, 'a> Names<'l, 'a> {
         definition_of(&self.chosen, &self.definitions, name)
     }
 
-    /// The chosen definition of a symbol's name, given the symbol's object's and its own number, where loading noted the name. The
-    /// name isn't read.
+    /// The chosen definition of a symbol's name, without that name, given the symbol's object's and its own number, where loading
+    /// noted the name. It isn't read.
     pub fn noted_choice(&self, object: u64, number: u64) -> Option<SymbolOf<'a>>
         ensures { IfSome result (λ s. (o : LoadedObject) → slice_get self.now object ≡ Some o
-            → chosen self.now (name_at o.bytes number) ≡ Some (symbol_view s)) }
+            → option_map unnamed (chosen self.now (name_at o.bytes number)) ≡ Some (symbol_view s)) }
     {
         let known = number_at(self.objects, object, number)?;
-        definition_at(&self.chosen, &self.definitions, known)
+        unnamed_at(&self.chosen, &self.definitions, known)
     }
 
     /// Whether the name of a symbol has a chosen definition, given the symbol's object's and its own number, where loading noted

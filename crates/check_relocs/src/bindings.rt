@@ -10,11 +10,13 @@ ghost use Rattle.elf_model.specs.Link.Meaning.{is_in_thread_storage, meaning, me
 ghost use Rattle.elf_model.specs.Link.Pieces.{AreOneOutput, kept_sections};
 ghost use Rattle.elf_model.specs.Link.Placement.{got_start, section_address, symbol_value};
 ghost use Rattle.elf_model.specs.Link.Relocation.{IsMixed, IsMixedBound, definition_of, is_local};
+ghost use Rattle.elf_model.specs.Link.Resolution as resolution;
 ghost use Rattle.elf_model.specs.Link.Resolution.{AreSoundSymbols, all_symbols, binding, chosen, is_in_thread_section};
 ghost use Rattle.check_load.specs.Numbered.{name_at};
 ghost use Rattle.check_load.specs.Views.{loaded_views};
 ghost use Rattle.check_relocs.specs.Bindings.{IsOfUnkept, IsTargetOf};
 ghost use Rattle.check_link.specs.Chosen.{AreOtherChoices, AreOwnChoices};
+ghost use Rattle.check_link.specs.DefinitionList.{unnamed};
 ghost use Rattle.check_link.specs.ThreadStorage.{thread_pointer};
 ghost use Rattle.check_link.specs.Views.{meaning_view, symbol_view, symbol_views};
 
@@ -24,7 +26,7 @@ use check_link::{
     has_value, is_in_thread_section, is_mangled, named_output, output_bound, section_of,
 };
 use check_load::Loaded;
-use elf_model::{Bound, SHN_ABS, SHN_COMMON, SHN_UNDEF, STB_LOCAL, STB_WEAK};
+use elf_model::{Bound, SHN_ABS, SHN_UNDEF, STB_LOCAL, STB_WEAK};
 use std::alloc::{AllocError, Global};
 use std::marker::Model;
 
@@ -197,12 +199,13 @@ impl<'l, 'p, 'a> Bindings<'l, 'p, 'a> {
         self.names.chosen(name)
     }
 
-    /// The chosen definition of the name of a symbol, given its object's and its own number, where loading noted the name. The name
-    /// isn't read.
+    /// The chosen definition of the name of a symbol, without that name, given the symbol's object's and its own number, where
+    /// loading noted the name. It isn't read.
     pub fn noted_choice(&self, object: u64, number: u64) -> Option<SymbolOf<'a>>
         ensures { IfSome result (λ s. (o : LoadedObject)
             → slice_get self.now.objects object ≡ Some o
-            → chosen self.now.objects (name_at o.bytes number) ≡ Some (symbol_view s)) }
+            → option_map unnamed (chosen self.now.objects (name_at o.bytes number))
+            ≡ Some (symbol_view s)) }
     {
         self.names.noted_choice(object, number)
     }
@@ -387,11 +390,12 @@ impl<'l, 'p, 'a> Bindings<'l, 'p, 'a> {
         }
     }
 
-    /// What a symbol means to the relocations that name it, given the symbol which these use.
-    fn target_defined(&self, symbol: &SymbolOf<'a>, definition: &SymbolOf<'a>) -> Target
-        requires { definition_of self.now.objects (symbol_view symbol.now)
-            ≡ Some (meanings.Symbol (symbol_view definition.now)) }
-        ensures { IsTargetOf self.now (symbol_view symbol.now) result }
+    /// What a symbol means to the relocations that name it, given the symbol which these use, both whatever their names are.
+    pub fn target_defined(&self, symbol: &SymbolOf<'a>, definition: &SymbolOf<'a>) -> Target
+        ensures { (s t : resolution.SymbolOf) → unnamed s ≡ unnamed (symbol_view symbol.now)
+            → unnamed t ≡ unnamed (symbol_view definition.now)
+            → definition_of self.now.objects s ≡ Some (meanings.Symbol t)
+            → IsTargetOf self.now s result }
     {
         let objects = self.names.objects();
         Target {
@@ -421,31 +425,6 @@ impl<'l, 'p, 'a> Bindings<'l, 'p, 'a> {
         ensures { IsTargetOf self.now (symbol_view symbol.now) result }
     {
         let definition = self.definition(symbol);
-        self.target_with(symbol, &definition)
-    }
-
-    /// What a name means, given its chosen definition.
-    fn meaning_of(&self, name: &'a [u8], choice: &SymbolOf<'a>) -> Option<Meaning<'a>>
-        requires { chosen self.now.objects name.now ≡ Some (symbol_view choice.now) }
-        ensures { option_map meaning_view result ≡ meaning self.now.objects name.now }
-    {
-        match self.meant(choice) {
-            Some(meaning) => Some(meaning),
-            None => self.linker_meaning(name),
-        }
-    }
-
-    /// What a symbol that isn't LOCAL means to the relocations that name it, given the chosen definition of its name.
-    pub fn target_chosen(&self, symbol: &SymbolOf<'a>, choice: &SymbolOf<'a>) -> Target
-        requires chosen { chosen self.now.objects symbol.now.name.now
-            ≡ Some (symbol_view choice.now) }
-        requires visible { is_local (symbol_view symbol.now) ≡ false }
-        ensures { IsTargetOf self.now (symbol_view symbol.now) result }
-    {
-        if choice.entry.st_shndx != SHN_COMMON {
-            return self.target_defined(symbol, choice);
-        }
-        let definition = self.meaning_of(symbol.name, choice);
         self.target_with(symbol, &definition)
     }
 

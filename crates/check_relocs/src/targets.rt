@@ -1,9 +1,8 @@
 //! What the symbols of an object mean to its relocations.
-ghost use Rattle.std.specs.Prelude.{◌≡◌, ◌↔◌, ◌<◌, ℕ, [], IsTrue, false, length, true};
+ghost use Rattle.std.specs.Prelude.{◌≡◌, ℕ, [], false, true};
 ghost use Rattle.elf_model.specs.Link.Relocation.{is_local, symbol_at};
 ghost use Rattle.check_relocs.specs.Bindings.{IsTargetOf};
 ghost use Rattle.check_relocs.specs.Referrers.{symbol_here};
-ghost use Rattle.check_load.specs.Kept.{kept_relas};
 ghost use Rattle.check_load.specs.Views.{loaded_view};
 ghost use Rattle.check_link.specs.Views.{symbol_view};
 
@@ -11,7 +10,7 @@ use crate::bindings::Bindings;
 use crate::referrer::Referrer;
 use check_link::SymbolOf;
 use check_load::Loaded;
-use elf_model::STB_LOCAL;
+use elf_model::{SHN_COMMON, STB_LOCAL};
 
 /// What a symbol means to relocations: whether it lacks a definition, whether it is a LOCAL one of a
 /// section that isn't kept, whether it stands in a dropped section, whether its definition is a bound of sections of
@@ -65,21 +64,6 @@ fn unnamed_at<'a>(loaded: &Loaded<'a>, number: u64, j: usize) -> SymbolOf<'a>
     }
 }
 
-/// Symbol `j` of object `number`, given its name.
-fn named_at<'a>(loaded: &Loaded<'a>, number: u64, j: usize, name: &'a [u8]) -> SymbolOf<'a>
-    ensures { symbol_view result
-        ≡ record (symbol_at number (loaded_view loaded.now) j) { name = name.entry.now } }
-{
-    let entry = loaded.object.symbol(j);
-    SymbolOf {
-        object: number,
-        number: j as u64,
-        name,
-        entry,
-        dropped: loaded.is_dropped(entry.st_shndx as usize),
-    }
-}
-
 /// What symbol `j` of object `number` means. Of a LOCAL one the name isn't read.
 pub fn target_of_symbol<'a>(
     bindings: &Bindings<'_, '_, 'a>,
@@ -93,13 +77,6 @@ pub fn target_of_symbol<'a>(
         return bindings.local_target(&unnamed_at(loaded, number, j));
     }
     bindings.target(&symbol_at(loaded, number, j))
-}
-
-/// Whether an object has kept relocations at all: only then it is worth while to know what all its symbols mean.
-pub fn has_relas(loaded: &Loaded<'_>) -> bool
-    ensures { IsTrue result ↔ (0 < length (kept_relas (loaded_view loaded.now))) }
-{
-    !loaded.kept_relas().is_empty()
 }
 
 /// How many entries the kept RELA sections of an object have.
@@ -121,7 +98,8 @@ fn own_local_target<'a>(here: &Referrer<'_, '_, '_, 'a>, j: usize) -> Target
         .local_target(&unnamed_at(here.loaded, here.number, j))
 }
 
-/// What symbol `j` of an object means, one that isn't LOCAL. Its name isn't read where loading noted it and an object defines it.
+/// What symbol `j` of an object means, one that isn't LOCAL. Its name isn't read where loading noted it and an object defines it
+/// otherwise than as a common one.
 #[inline(never)]
 fn own_visible_target<'a>(here: &Referrer<'_, '_, '_, 'a>, j: usize) -> Target
     requires { is_local (symbol_here here.now j) ≡ false }
@@ -129,10 +107,10 @@ fn own_visible_target<'a>(here: &Referrer<'_, '_, '_, 'a>, j: usize) -> Target
 {
     let (bindings, number, loaded) = (here.bindings, here.number, here.loaded);
     match bindings.noted_choice(number, j as u64) {
-        Some(chosen) => {
-            bindings.target_chosen(&named_at(loaded, number, j, chosen.name), &chosen)
+        Some(chosen) if chosen.entry.st_shndx != SHN_COMMON => {
+            bindings.target_defined(&unnamed_at(loaded, number, j), &chosen)
         }
-        None => bindings.target(&symbol_at(loaded, number, j)),
+        _ => bindings.target(&symbol_at(loaded, number, j)),
     }
 }
 
