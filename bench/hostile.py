@@ -20,6 +20,8 @@
     flooded       16,000 symbols with slots, common symbols, signatures, output sections and names of an index each, whose
                   names collide where they are hashed from the seed that everybody knows
     local-slots   100,000 LOCAL symbols whose names are ends of one text of 10 MB, each with a slot of the GOT
+    long-name     100,000 relocations, half of them for a slot, that name one weak symbol without a definition, whose name has
+                  10 MB
 
 Two more grow faster than their bytes, for reasons that docs/BENCHMARKS.md gives. They run only where they are named,
 are small, and have no limit:
@@ -181,6 +183,16 @@ def local_slots(folder, count):
     table, places = ends_of_one_text(count)
     path = folder / "slots.o"
     path.write_bytes(made.with_places(table, [(at, 0, code, 0) for at in places]))
+    return link_and_check(folder, [start(folder), path])
+
+
+def long_name(folder, count):
+    made = Names()
+    data = made.section(".data", elf.PROGBITS, DATA, bytes(8 * count), 8)
+    made.relocations(data, [(8 * k, elf.GOTPCREL if k % 2 else elf.ABS64, 1, 0) for k in range(count)])
+    table, _ = ends_of_one_text(count)
+    path = folder / "long.o"
+    path.write_bytes(made.with_places(table, [(1, elf.WEAK << 4, 0, 0)]))
     return link_and_check(folder, [start(folder), path])
 
 
@@ -379,6 +391,7 @@ INPUTS = {
     "group-order": (group_order, 10_000),
     "flooded": (flooded, 16_000),
     "local-slots": (local_slots, 100_000),
+    "long-name": (long_name, 100_000),
 }
 
 NOT_LINEAR = {
