@@ -1,3 +1,1 @@
-mod Counted
 pub mod Members
-pub mod Standing

@@ -1,2 +1,1 @@
 pub mod BadParts
-pub mod Tables

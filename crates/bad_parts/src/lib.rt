@@ -6,8 +6,6 @@
 
 mod part;
 mod search;
-mod tables;
-mod text;
 
-pub use part::{BadPart, EntryPart, MemberPart, SectionPart, SymbolPart};
+pub use part::{BadPart, Held, Part, SectionPart, SymbolPart};
 pub use search::bad_part;

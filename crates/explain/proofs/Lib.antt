@@ -1,2 +1,1 @@
 pub mod Caused
-pub mod Told

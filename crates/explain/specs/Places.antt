@@ -1,97 +1,76 @@
 -- What a place of an explanation says, and the cause that it carries.
 use Rattle.std.specs.Prelude.{◌≡◌, ◌≢◌, ◌⊎◌, ◌<◌, ◌+◌, ◌%◌, ◌^◌, ℕ, true, List, [], Option, Some, Ok, Err, All, IfSome, unwrap_or}
 use Rattle.std.specs.List.{slice_get}
-use Rattle.elf_model.specs.Own.Causes.{AnyRelocation, Cause, HasFiles, HasObjects, IsBadArchive, IsResolved, IsUndefinedName, IsWithoutIndex, Reaches}
-use Rattle.elf_model.specs.Inputs.Command.{Item, Plan, command_of}
+use Rattle.elf_model.specs.Own.Causes.{AnyRelocation, Cause, HasFiles, HasObjects, IsBadArchive, IsResolved, IsUndefinedName, IsWithoutIndex}
+use Rattle.elf_model.specs.Inputs.Command.{IsBase, Item, Plan, command_of}
 use Rattle.elf_model.specs.Inputs.Files.{File}
-use Rattle.elf_model.specs.Link.Groups.{GroupFaultStands}
 use Rattle.elf_model.specs.Link.Loading.{LoadedObject, loaded_objects}
-use Rattle.elf_model.specs.Inputs.ObjectFile.{IsObject, ObjFaultStands, groups, section_name, sections, symbol_name, symbols}
-use Rattle.elf_model.specs.Link.Relocation.{AreFieldsApart, Relocation, relocation_of}
+use Rattle.elf_model.specs.Inputs.ObjectFile.{section_name, sections, symbol_name, symbols}
+use Rattle.elf_model.specs.Link.Relocation.{Relocation}
 use Rattle.elf_model.specs.Inputs.Opening.{HasFile, Opened, opened}
-use Rattle.elf_model.specs.Link.Pieces.{is_kept}
+use Rattle.elf_model.specs.Link.Pieces.{AreLawfulKinds, is_kept}
 use Rattle.elf_model.specs.Link.Placement.{section_address}
 use Rattle.elf_model.specs.Link.RelocationValues.{Fits, value_of}
+use Rattle.elf_model.specs.Link.Slots as wanted_slots
 use Rattle.elf_model.specs.Link.Resolution.{IsDuplicate, IsEntry, IsSoundCommon, IsSoundSymbol, SymbolOf, is_strong, symbol_of}
 use Rattle.elf_model.specs.declared.faults.ArFault.TheVariants as archive_fault
 use Rattle.elf_model.specs.declared.faults.CmdFault.{CmdFault}
-use Rattle.elf_model.specs.declared.faults.GroupFault.{GroupFault}
-use Rattle.elf_model.specs.declared.faults.GroupFault.TheVariants as group_fault
+use Rattle.elf_model.specs.declared.faults.LinkError.{LinkError}
 use Rattle.elf_model.specs.declared.faults.LinkError.TheVariants as error
-use Rattle.elf_model.specs.declared.faults.ObjFault.{ObjFault}
-use Rattle.elf_model.specs.declared.faults.ObjFault.TheVariants as object_fault
+use Rattle.elf_model.specs.declared.records.SectionHeader.{SectionHeader}
+use Rattle.elf_model.specs.declared.records.Symbol.{Symbol}
 use Rattle.bad_parts.specs.BadParts.{IsBadOf}
-use Rattle.bad_parts.specs.declared.part.BadPart.{BadPart}
 use Rattle.command.specs.RefusedWords.{AreRefused}
 use Rattle.command.specs.Views.{source_of}
 use Rattle.command.specs.declared.items.Source.{Source}
-use Rattle.opening.specs.Faults.{IsSearchable}
 use Rattle.opening.specs.Opened.{item_view}
 use Rattle.opening.specs.declared.opened_items.OpenedItem.{OpenedItem}
+use Rattle.search.specs.Faults.{IsObjectAt, IsRefusedIn}
 use Rattle.search.specs.Loads.{LoadedPlan}
-use Rattle.input_names.specs.RelocationPlaces as kept_places
-use Rattle.input_names.specs.RelocationPlaces.{AreTwo}
+use Rattle.search.specs.declared.faults.SearchFault.{SearchFault}
+use Rattle.search.specs.declared.faults.SearchFault.TheVariants as search_fault
+use Rattle.search.specs.declared.loader.Reached.{Reached}
+use Rattle.input_names.specs.RelocationPlaces.{IsOverlap, IsRelocationAt}
+use Rattle.input_names.specs.declared.relocation_places.RelocationPlace.{RelocationPlace}
+use Rattle.got_tls.specs.Views.{Got}
 use Rattle.layout.specs.Kinds.{IsLawfulIfKept}
+use Rattle.layout.specs.Mixed.{AreMixed}
 use Rattle.layout.specs.Placements.{Basis}
 use Rattle.relocate.specs.References.{IsUnlawful}
 use Rattle.relocate.specs.declared.faults.RelocationFault.{RelocationFault}
 use Rattle.relocate.specs.declared.faults.RelocationFault.TheVariants as wrong
-use Rattle.relocate.specs.Values.{where_in}
-use Rattle.explain.specs.declared.phase.Phase.{Phase}
-use Rattle.explain.specs.declared.phase.Phase.TheVariants as phase
-use Rattle.explain.specs.declared.place.ObjectPlace.{ObjectPlace}
+use Rattle.relocate.specs.Values.{pointer_in, where_in}
+use Rattle.explain.specs.declared.place.EntryPlace.{EntryPlace}
 use Rattle.explain.specs.declared.place.Place.{Place}
 use Rattle.explain.specs.declared.place.Place.TheVariants as place
-use Rattle.explain.specs.declared.place.RelocationPlace.{RelocationPlace}
-use Rattle.explain.specs.declared.place.SectionPlace.{SectionPlace}
 use Rattle.explain.specs.declared.place.SymbolFault.{SymbolFault}
 use Rattle.explain.specs.declared.place.SymbolFault.TheVariants as symbol_fault
-use Rattle.explain.specs.declared.place.SymbolPlace.{SymbolPlace}
+use Rattle.explain.specs.declared.wanted.Wanted.{Wanted}
+use Rattle.explain.specs.declared.wanted.Wanted.TheVariants as wanted
 
--- the item of an object, its file, and its member in there
-pub record IsFileOf (o : LoadedObject) (p : ObjectPlace) : Type 0 where
-  pub item : p.item ≡ o.item
-  pub path : p.path.now ≡ o.path
-  pub offset : p.offset ≡ o.offset
-
--- a place is that of a section of an object, of which something stands
-pub record IsSectionOf (objects : List LoadedObject) (p : SectionPlace) (Stands : LoadedObject → Type 0) : Type 0 where
+-- a place is that of the loaded object that has a number, of which something stands
+pub record IsLoadedAt (objects : List LoadedObject) (n : ℕ) (p : Reached) (Stands : LoadedObject → Type 0) : Type 0 where
   pub o : LoadedObject
-  pub file : IsFileOf o p.file
-  pub object : slice_get objects p.object ≡ Some o
-  pub section : slice_get (sections o.bytes) p.section ≡ Some p.header
-  pub name : p.name.now ≡ unwrap_or (section_name o.bytes p.section) []
+  pub there : slice_get objects n ≡ Some o
+  pub at : IsObjectAt p o
   pub stands : Stands o
 
--- it is kept, and takes up more than all addresses from a base on
-abbrev pub IsLargeIn : ℕ → SectionPlace → LoadedObject → Type 0
-IsLargeIn base p o = (is_kept o p.section p.header ≡ true) × (2 ^ 46 < base + p.header.sh_size)
+-- a place is that of a section or a symbol, which has a name
+pub record IsEntryOf {E : Type 0} (entries : List E) (name : ℕ → Option (List ℕ)) (p : EntryPlace E) : Type 0 where
+  pub there : slice_get entries p.number ≡ Some p.entry
+  pub name_is : p.name.now ≡ unwrap_or (name p.number) []
 
--- a place is that of a symbol of an object, of which something stands
-pub record IsSymbolOf (objects : List LoadedObject) (p : SymbolPlace) (Stands : LoadedObject → Type 0) : Type 0 where
-  pub o : LoadedObject
-  pub file : IsFileOf o p.file
-  pub object : slice_get objects p.object ≡ Some o
-  pub symbol : slice_get (symbols o.bytes) p.symbol ≡ Some p.entry
-  pub name : p.name.now ≡ unwrap_or (symbol_name o.bytes p.symbol) []
-  pub stands : Stands o
+abbrev pub IsSectionOf : LoadedObject → EntryPlace SectionHeader → Type 0
+IsSectionOf o p = IsEntryOf (sections o.bytes) (section_name o.bytes) p
+
+abbrev pub IsSymbolOf : LoadedObject → EntryPlace Symbol → Type 0
+IsSymbolOf o p = IsEntryOf (symbols o.bytes) (symbol_name o.bytes) p
 
 -- what is wrong with a symbol; a strong definition is, where its name has two
 abbrev pub IsSymbolWrong : List LoadedObject → SymbolOf → SymbolFault → Type 0
 IsSymbolWrong objects s symbol_fault.BadCommon = ¬ IsSoundCommon s
 IsSymbolWrong objects s symbol_fault.BadSymbol = ¬ IsSoundSymbol objects s
 IsSymbolWrong objects s symbol_fault.Duplicate = (is_strong s ≡ true) × IsDuplicate objects s.name
-
--- a place is that of a kept relocation, and of its object
-pub record IsRelocationAt (objects : List LoadedObject) (p : RelocationPlace) (r : Relocation) : Type 0 where
-  pub o : LoadedObject
-  pub object : slice_get objects p.at.object ≡ Some o
-  pub file : IsFileOf o p.file
-  pub at : kept_places.IsRelocationAt objects p.at r
-
--- it is one of the object that has a number
-abbrev pub IsKeptOf : List LoadedObject → ℕ → LoadedObject → RelocationPlace → Type 0
-IsKeptOf objects n o p = IsRelocationAt objects p (relocation_of n o p.at.section p.at.entry)
 
 -- a kept relocation is wrong
 abbrev pub IsWrongRelocation : List LoadedObject → RelocationPlace → RelocationFault → Type 0
@@ -106,53 +85,53 @@ pub record IsUnfit (b : Basis) (p : RelocationPlace) (value : ℕ) (address : �
   pub is_address : address ≡ (section_address (where_in b).placed r.object r.section + r.entry.r_offset) % 2 ^ 64
   pub wrong : ¬ Fits b.objects (where_in b) r
 
--- two places are those of two kept relocations whose fields share a byte
-pub record IsOverlap (objects : List LoadedObject) (p q : RelocationPlace) : Type 0 where
-  pub two : AreTwo p.at q.at
-  pub r : Relocation
-  pub t : Relocation
-  pub first : IsRelocationAt objects p r
-  pub second : IsRelocationAt objects q t
-  pub wrong : ¬ AreFieldsApart r t
-
 -- what a place says where a plan loads these objects
 abbrev pub basis_of : LoadedPlan → Basis
 basis_of l = record { base = l.plan.base; objects = l.objects }
 
 abbrev pub HoldsIn : LoadedPlan → Place → Type 0
-HoldsIn l (place.Section p) = IsSectionOf l.objects p (λ o. ¬ IsLawfulIfKept o p.section p.header)
-HoldsIn l (place.Large p) = IsSectionOf l.objects p (IsLargeIn l.plan.base p)
-HoldsIn l (place.Symbol p fault) = IsSymbolOf l.objects p (λ o. IsSymbolWrong l.objects (symbol_of p.object o p.symbol p.entry) fault)
-HoldsIn l (place.Relocation p fault) = IsWrongRelocation l.objects p fault
-HoldsIn l (place.Overlap p q) = IsOverlap l.objects p q
-HoldsIn l (place.Value p value address) = IsUnfit (basis_of l) p value address
+HoldsIn l (place.Section f p) = IsLoadedAt l.objects p.object f (λ o. IsSectionOf o p × (¬ IsLawfulIfKept o p.number p.entry))
+HoldsIn l (place.Large f p) = IsLoadedAt l.objects p.object f (λ o. IsSectionOf o p × (is_kept o p.number p.entry ≡ true) × (2 ^ 46 < l.plan.base + p.entry.sh_size))
+HoldsIn l (place.Symbol f p fault) = IsLoadedAt l.objects p.object f (λ o. IsSymbolOf o p × IsSymbolWrong l.objects (symbol_of p.object o p.number p.entry) fault)
+HoldsIn l (place.Relocation f p fault) = IsLoadedAt l.objects p.object f (λ _. IsWrongRelocation l.objects p fault)
+HoldsIn l (place.Overlap f p q) = IsLoadedAt l.objects p.object f (λ _. IsOverlap l.objects p q)
+HoldsIn l (place.Value f p value address) = IsLoadedAt l.objects p.object f (λ _. IsUnfit (basis_of l) p value address)
 HoldsIn l (place.Entry name) = (name.now ≡ l.plan.entry) × (¬ IsEntry l.objects l.plan.entry)
 HoldsIn l _ = ⊥
 
--- bytes have a fault, and the part of them, where there is one, is bad and of this fault
-abbrev pub HasFault : ObjFault → Option BadPart → List ℕ → Type 0
-HasFault f part bytes = (f ≢ object_fault.Memory) × ObjFaultStands bytes f × IfSome part (IsBadOf bytes f)
+-- lawful sections are laid out, and the GOT's slots and the thread pointer are those of this layout
+pub record AreValued (l : LoadedPlan) (objects : List LoadedObject) (b : Basis) (slots : Got) (pointer : ℕ) : Type 0 where
+  pub resolved : objects ≡ l.objects
+  pub placed : b ≡ basis_of l
+  pub kinds : AreLawfulKinds b.objects
+  pub slots_are : slots.slots ≡ wanted_slots.slots b.objects
+  pub slots_of : slots.objects ≡ l.objects
+  pub pointer_is : pointer ≡ pointer_in (where_in b)
 
--- bytes are an object whose groups have a fault
-abbrev pub HasBadGroups : GroupFault → List ℕ → Type 0
-HasBadGroups f bytes = (f ≢ group_fault.Memory) × IsObject bytes × GroupFaultStands (groups bytes) f
+-- the base is one, a name whose definitions are asked for has two, and what is known of the objects is
+abbrev pub MayBeAsked : LoadedPlan → Wanted → Type 0
+MayBeAsked l wanted.LargeSections = IsBase l.plan.base
+MayBeAsked l (wanted.Definitions name) = IsDuplicate l.objects name.now
+MayBeAsked l (wanted.UnlawfulEntries resolved mixed) = (resolved.now ≡ l.objects) × AreMixed resolved.now mixed.now
+MayBeAsked l (wanted.UnfitEntries resolved placement slots pointer) = AreValued l resolved.now placement.now slots.now pointer
+MayBeAsked l _ = Unit {0}
 
 -- an opened item is that of a plan that has its number
 abbrev pub IsOpened : List File → Plan → OpenedItem → Type 0
 IsOpened files plan item = slice_get (opened files plan) item.number ≡ Some (item_view item)
 
 -- a place is that of an item of a plan, which is opened, and something stands of it
-pub record IsItemAt (files : List File) (plan : Plan) (p : ObjectPlace) (Stands : Opened → Type 0) : Type 0 where
+pub record IsItemAt (files : List File) (plan : Plan) (p : Reached) (Stands : Opened → Type 0) : Type 0 where
   pub item : Opened
   pub there : slice_get (opened files plan) p.item ≡ Some item
   pub path : p.path.now ≡ item.path
+  pub bytes : p.bytes.now ≡ item.bytes
   pub stands : Stands item
 
--- loading a plan stops at the object of a place: its archives can be searched, all objects before this one are objects with
--- lawful groups, and something stands of its bytes
-pub record IsStoppedAt (files : List File) (plan : Plan) (p : ObjectPlace) (Stands : List ℕ → Type 0) : Type 0 where
-  pub searchable : IsSearchable files plan
-  pub reaches : Reaches (loaded_objects files plan) (λ o. IsFileOf o p × Stands o.bytes)
+-- loading a plan stops at the object of a place, which has a fault: the plan's archives can be searched, and all objects before
+-- it are objects with lawful groups
+abbrev pub IsStoppedAt : List File → Plan → Reached → SearchFault → Type 0
+IsStoppedAt files plan p f = IsRefusedIn files plan (Some (record { at = p; fault = f }))
 
 -- an item of a plan, which names a source, has no file
 pub record IsMissing (files : List File) (plan : Plan) (i : ℕ) (source : Source) : Type 0 where
@@ -166,8 +145,8 @@ abbrev pub HoldsOf : List File → Plan → Place → Type 0
 HoldsOf files plan (place.Missing i source) = IsMissing files plan i source
 HoldsOf files plan (place.Archive p f) = IsItemAt files plan p (λ o. (f ≢ archive_fault.Memory) × IsBadArchive f o)
 HoldsOf files plan (place.NoIndex p) = IsItemAt files plan p IsWithoutIndex
-HoldsOf files plan (place.Object p f part) = IsStoppedAt files plan p (HasFault f part)
-HoldsOf files plan (place.Groups p f) = IsStoppedAt files plan p (HasBadGroups f)
+HoldsOf files plan (place.Object p f part) = IsStoppedAt files plan p (search_fault.BadObject f) × IfSome part (IsBadOf p.bytes.now f)
+HoldsOf files plan (place.Groups p f) = IsStoppedAt files plan p (search_fault.Group f)
 HoldsOf files plan _ = ⊥
 
 -- the words are refused with a fault: at the word that has the number, or without one all of them together
@@ -210,42 +189,6 @@ Says files words p =
     ⊎ ((plan : Plan) × (command_of words ≡ Ok plan) × HoldsOf files plan p)
     ⊎ ((l : LoadedPlan) × IsLoadedBy files words l × HoldsIn l p)
 
--- what is judged together in a link: the phase of the error that a place is of; an error that is told as a whole is of none
-abbrev pub place_phase : Place → Phase
-place_phase (place.Word number f) = phase.Words
-place_phase (place.Missing i source) = phase.Files
-place_phase (place.Archive p f) = phase.Archives
-place_phase (place.NoIndex p) = phase.Archives
-place_phase (place.Object p f part) = phase.Objects
-place_phase (place.Groups p f) = phase.Objects
-place_phase (place.Section p) = phase.Kinds
-place_phase (place.Symbol p symbol_fault.BadCommon) = phase.Commons
-place_phase (place.Symbol p symbol_fault.BadSymbol) = phase.Symbols
-place_phase (place.Symbol p symbol_fault.Duplicate) = phase.Definitions
-place_phase (place.Relocation p f) = phase.References
-place_phase (place.Overlap p q) = phase.Overlaps
-place_phase (place.Entry name) = phase.Entry
-place_phase (place.Large p) = phase.Room
-place_phase (place.Value p value address) = phase.Values
-place_phase (place.Refused e) = phase.None
-
--- what the cause of an error gives of its phase
-abbrev pub Given : List File → List (List ℕ) → Phase → Type 0
-Given files words phase.None = ⊥
-Given files words phase.Words = Unit {0}
-Given files words phase.Files = Cause files words error.FileMissing
-Given files words phase.Archives = (p : Plan) × HasFiles files words p
-Given files words phase.Objects = Unit {0}
-Given files words phase.Kinds = Cause files words error.SectionKind
-Given files words phase.Commons = Cause files words error.BadCommon
-Given files words phase.Symbols = Cause files words error.BadSymbol
-Given files words phase.Definitions = (p : Plan) × HasObjects files words p
-Given files words phase.References = (p : Plan) × IsResolved files words p
-Given files words phase.Overlaps = Cause files words error.OverlappingFields
-Given files words phase.Entry = Cause files words error.NoEntry
-Given files words phase.Room = Cause files words error.TooLarge
-Given files words phase.Values = Cause files words error.Overflow
-
 -- the cause of the error that a place is of; a name is that of the place
 abbrev pub CauseOf : List File → List (List ℕ) → Place → Type 0
 CauseOf files words (place.Word number f) = Cause files words (error.Command f)
@@ -254,22 +197,37 @@ CauseOf files words (place.Archive p f) = Cause files words (error.BadArchive f)
 CauseOf files words (place.NoIndex p) = Cause files words error.NoIndex
 CauseOf files words (place.Object p f part) = Cause files words (error.BadObject f)
 CauseOf files words (place.Groups p f) = Cause files words (error.BadGroup f)
-CauseOf files words (place.Section p) = Cause files words error.SectionKind
-CauseOf files words (place.Large p) = Cause files words error.TooLarge
-CauseOf files words (place.Symbol p symbol_fault.BadCommon) = Cause files words error.BadCommon
-CauseOf files words (place.Symbol p symbol_fault.BadSymbol) = Cause files words error.BadSymbol
-CauseOf files words (place.Symbol p symbol_fault.Duplicate) =
+CauseOf files words (place.Section o p) = Cause files words error.SectionKind
+CauseOf files words (place.Large o p) = Cause files words error.TooLarge
+CauseOf files words (place.Symbol o p symbol_fault.BadCommon) = Cause files words error.BadCommon
+CauseOf files words (place.Symbol o p symbol_fault.BadSymbol) = Cause files words error.BadSymbol
+CauseOf files words (place.Symbol o p symbol_fault.Duplicate) =
     (plan : Plan) × HasObjects files words plan × IsDuplicate (loaded_objects files plan) p.name.now
-CauseOf files words (place.Relocation p wrong.Undefined) = AnyRelocation files words (IsUndefinedName p.at.symbol_name.now)
-CauseOf files words (place.Relocation p wrong.RefToDropped) = Cause files words error.RefToDropped
-CauseOf files words (place.Relocation p wrong.RelocKind) = Cause files words error.RelocKind
-CauseOf files words (place.Relocation p wrong.FieldOutside) = Cause files words error.FieldOutside
-CauseOf files words (place.Relocation p wrong.TlsMismatch) = Cause files words error.TlsMismatch
-CauseOf files words (place.Relocation p wrong.MixedSection) = Cause files words error.MixedSection
-CauseOf files words (place.Overlap p q) = Cause files words error.OverlappingFields
-CauseOf files words (place.Value p value address) = Cause files words error.Overflow
+CauseOf files words (place.Relocation o p wrong.Undefined) = AnyRelocation files words (IsUndefinedName p.symbol_name.now)
+CauseOf files words (place.Relocation o p wrong.RefToDropped) = Cause files words error.RefToDropped
+CauseOf files words (place.Relocation o p wrong.RelocKind) = Cause files words error.RelocKind
+CauseOf files words (place.Relocation o p wrong.FieldOutside) = Cause files words error.FieldOutside
+CauseOf files words (place.Relocation o p wrong.TlsMismatch) = Cause files words error.TlsMismatch
+CauseOf files words (place.Relocation o p wrong.MixedSection) = Cause files words error.MixedSection
+CauseOf files words (place.Overlap o p q) = Cause files words error.OverlappingFields
+CauseOf files words (place.Value o p value address) = Cause files words error.Overflow
 CauseOf files words (place.Entry name) = Cause files words error.NoEntry
 CauseOf files words (place.Refused e) = Cause files words e.now
+
+-- what is known of a link whose error is judged together with that of a place; where its own words don't say the rest, the cause
+abbrev pub Given : List File → List (List ℕ) → Place → Type 0
+Given files words (place.Word number f) = Unit {0}
+Given files words (place.Archive p f) = (plan : Plan) × HasFiles files words plan
+Given files words (place.NoIndex p) = (plan : Plan) × HasFiles files words plan
+Given files words (place.Object p f part) = Unit {0}
+Given files words (place.Groups p f) = Unit {0}
+Given files words (place.Symbol o p symbol_fault.Duplicate) = (plan : Plan) × HasObjects files words plan
+Given files words (place.Relocation o p f) = (plan : Plan) × IsResolved files words plan
+Given files words p = CauseOf files words p
+
+-- a place is told of an error: where this one has its cause, that is known
+pub record IsOf (e : LinkError) (p : Place) : Type 0 where
+  pub given : (files : List File) (words : List (List ℕ)) → Cause files words e → Given files words p
 
 -- what a place says is so, and the error that it is of has its cause
 pub record Holds (files : List File) (words : List (List ℕ)) (p : Place) : Type 0 where

@@ -7,13 +7,12 @@ ghost use Rattle.elf_model.specs.Inputs.Files.{File, files_of};
 ghost use Rattle.search.specs.Faults.{IsRefusedIn};
 ghost use Rattle.explain.specs.Places.{AreSo, HoldsOf, IsOpened, OfPlan};
 
-use crate::found::{Added, Found};
-use crate::place::{ObjectPlace, Place};
+use crate::place::{Added, Found, Place};
 use bad_parts::bad_part;
 use command::{Item, Plan};
 use elf_model::InputFile;
 use opening::{FileIndex, OpenFault, OpenedItem, find_source, read_input};
-use search::{RefusedObject, SearchFault, refused_object};
+use search::{Reached, RefusedObject, SearchFault, refused_object};
 use std::alloc::{AllocError, Global};
 
 /// A place at which something is wrong, where there is one.
@@ -24,15 +23,16 @@ fn bad_archive<'a>(alloc: Global, item: &OpenedItem<'a>) -> Wrong<'a>
     ensures { (files : List File) (plan : command.Plan) →
         IsOpened files plan item.now → IfOk result (λ o. IfSome o (HoldsOf files plan)) }
 {
-    let place = ObjectPlace {
+    let at = Reached {
         item: item.number,
         path: item.path,
         offset: 0,
+        bytes: item.bytes,
     };
     match read_input(alloc, item) {
         Ok(_) => Ok(None),
-        Err(OpenFault::BadArchive(fault)) => Ok(Some(Place::Archive(place, fault))),
-        Err(OpenFault::NoIndex) => Ok(Some(Place::NoIndex(place))),
+        Err(OpenFault::BadArchive(fault)) => Ok(Some(Place::Archive(at, fault))),
+        Err(OpenFault::NoIndex) => Ok(Some(Place::NoIndex(at))),
         Err(_) => Err(AllocError),
     }
 }
@@ -74,53 +74,42 @@ fn wrong_item<'a>(
     bad_archive(alloc, &opened)
 }
 
-/// Adds the items of a plan that have no file; where files are opened, also the archives that are none, or can't be searched.
-pub fn add_items<'a>(
-    alloc: Global,
-    found: &mut Found<'a>,
-    files: &FileIndex<'a>,
-    plan: &Plan<'a>,
-    open: bool,
-) -> Added
-    requires { AreSo (OfPlan files.now plan.now) found.old.places.items }
-    ensures { OnOk result (AreSo (OfPlan files.now plan.now) found.new.places.items) }
-{
-    for i in 0..plan.items.len() {
-        found.add(wrong_item(alloc, files, plan, i, open)?)?;
-    }
-    Ok(())
-}
-
 /// The place of an object at which loading stops.
 fn refused_place<'a>(alloc: Global, object: &RefusedObject<'a>) -> Wrong<'a>
     ensures { (files : List File) (plan : command.Plan) →
         IsRefusedIn files plan (Some object.now) → IfOk result (λ o. IfSome o (HoldsOf files plan)) }
 {
-    let place = ObjectPlace {
-        item: object.at.item,
-        path: object.at.path,
-        offset: object.at.offset,
-    };
     match object.fault {
         SearchFault::BadObject(fault) => {
             let part = bad_part(alloc, object.at.bytes, fault)?;
-            Ok(Some(Place::Object(place, fault, part)))
+            Ok(Some(Place::Object(object.at, fault, part)))
         }
-        SearchFault::Group(fault) => Ok(Some(Place::Groups(place, fault))),
+        SearchFault::Group(fault) => Ok(Some(Place::Groups(object.at, fault))),
         _ => Ok(None),
     }
 }
 
-/// Adds the object at which loading stops, where it stops at one.
-pub fn add_refused<'a>(
+/// Adds why a plan isn't loaded: the items that have no file, where each has one the archives that are none or can't be searched,
+/// and the object at which loading stops, where it stops at one.
+pub fn add_unloaded<'a>(
     alloc: Global,
     found: &mut Found<'a>,
     files: &'a [InputFile],
     plan: &Plan<'a>,
+    fault: SearchFault,
 ) -> Added
     requires { AreSo (OfPlan (files_of files.now) plan.now) found.old.places.items }
     ensures { OnOk result (AreSo (OfPlan (files_of files.now) plan.now) found.new.places.items) }
 {
+    let open = match fault {
+        SearchFault::Memory => return Err(AllocError),
+        SearchFault::FileMissing => false,
+        _ => true,
+    };
+    let index = FileIndex::new(alloc, files)?;
+    for i in 0..plan.items.len() {
+        found.add(wrong_item(alloc, &index, plan, i, open)?)?;
+    }
     match refused_object(alloc, plan, files)? {
         Some(object) => found.add(refused_place(alloc, &object)?),
         None => Ok(()),

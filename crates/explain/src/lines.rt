@@ -1,92 +1,97 @@
 //! The lines of an explanation: a line a place, and of an undefined name no more than three references.
 
-use crate::found::Found;
-use crate::passed_archives::passed_archive;
-use crate::place::Place;
+use crate::place::{Found, Place};
 use crate::text::{Inputs, PlaceText};
+use ar_index::Archive;
 use byteview::View;
-use elf_model::InputFile;
+use command::read_words;
+use elf_model::{ArFault, CmdFault, InputFile};
 use elf_read::ObjectFile;
 use input_names::Name;
+use opening::{FileIndex, find_source};
 use relocate::RelocationFault;
 use std::alloc::{AllocError, Global};
-use std::collections::BTreeMap;
 use std::io;
 use std::io::Write;
 
 /// How many references to an undefined name are told.
-const REFERENCES: u64 = 3;
+const REFERENCES: usize = 3;
 
 /// The symbol of an object that gcc makes by -flto without -ffat-lto-objects.
 const SLIM: &[u8] = b"__gnu_lto_slim";
 
-/// Names with a count each.
-type Counts<'a> = BTreeMap<&'a [u8], u64>;
-
 /// The undefined name that a place asks for.
 fn undefined_name<'a>(place: &Place<'a>) -> Option<&'a [u8]> {
     match place {
-        Place::Relocation(place, RelocationFault::Undefined) => Some(place.at.symbol_name),
+        Place::Relocation(_, place, RelocationFault::Undefined) => Some(place.symbol_name),
         _ => None,
     }
 }
 
-/// Counts a name once more, and answers how often that is.
-fn count<'a>(counts: &mut Counts<'a>, name: &'a [u8]) -> Result<u64, AllocError> {
-    let number = counts.get(name).copied().unwrap_or(0).saturating_add(1);
-    counts.insert(name, number)?;
-    Ok(number)
+/// How many of some places ask for an undefined name.
+fn references(places: &[Place<'_>], name: &[u8]) -> usize {
+    let names = places.iter().filter_map(undefined_name);
+    names.filter(|other| *other == name).count()
 }
 
-/// Writes a reference to an undefined name, the first, second or third; behind the first which archive has the name, behind the
-/// third how many more there are.
-fn write_reference<W: Write>(
-    out: &mut W,
-    inputs: Inputs<'_>,
-    name: &[u8],
-    number: u64,
-    all: u64,
-) -> io::Result<()> {
-    if number == 1
-        && let Some((item, path)) = passed_archive(inputs, name)?
-    {
-        let (path, name) = (Name(path.as_bytes()), Name(name));
-        write!(
-            out,
-            "; {path} (item {item}) defines {name}, but was searched before it was needed: name it later, or in a group"
-        )?;
+/// Whether the index of an archive has a name.
+fn has_name(alloc: Global, file: &[u8], name: &[u8]) -> Result<bool, AllocError> {
+    match Archive::read(alloc, View::new(file)) {
+        Ok(archive) => {
+            let entries = archive.index().unwrap_or(&[]);
+            Ok(entries.iter().any(|entry| entry.name() == name))
+        }
+        Err(ArFault::Memory) => Err(AllocError),
+        Err(_) => Ok(false),
     }
-    let rest = all.saturating_sub(REFERENCES);
-    if number == REFERENCES && rest > 0 {
-        let ending = if rest == 1 { "" } else { "s" };
-        write!(out, "; and {rest} more reference{ending} to it")?;
+}
+
+/// Writes which archive has a name that nothing defines, where one has it in its index: the first item, which was searched
+/// before the name was needed.
+fn write_passed_archive<W: Write>(out: &mut W, inputs: Inputs<'_>, name: &[u8]) -> io::Result<()> {
+    let alloc = inputs.alloc;
+    let plan = match read_words(alloc, inputs.words) {
+        Ok(plan) => plan,
+        Err(CmdFault::Memory) => return Err(AllocError.into()),
+        Err(_) => return Ok(()),
+    };
+    let index = FileIndex::new(alloc, inputs.files)?;
+    for (i, item) in plan.items.iter().enumerate() {
+        if let Some((path, file)) = find_source(alloc, &index, &plan.directories, item.source)?
+            && item.archive
+            && has_name(alloc, file, name)?
+        {
+            let (path, name) = (Name(path.as_bytes()), Name(name));
+            return write!(
+                out,
+                "; {path} (item {i}) defines {name}, but was searched before it was needed: name it later, or in a group"
+            );
+        }
     }
     Ok(())
 }
 
-/// Writes a place with the end of its line, unless it is one of too many references to a name; answers whether it did.
-fn write_line<'a, W: Write>(
+/// Writes place `i`. Behind the first reference to an undefined name it says which archive has the name, behind the third one
+/// how many more there are.
+fn write_line<W: Write>(
     out: &mut W,
     inputs: Inputs<'_>,
-    all: &Counts<'a>,
-    told: &mut Counts<'a>,
-    place: &Place<'a>,
-) -> io::Result<bool> {
-    let name = undefined_name(place);
-    let number = match name {
-        Some(name) => count(told, name)?,
-        None => 0,
-    };
-    if number > REFERENCES {
-        return Ok(false);
-    }
+    places: &[Place<'_>],
+    place: &Place<'_>,
+    before: usize,
+) -> io::Result<()> {
     write!(out, "{}", PlaceText { inputs, place })?;
-    if let Some(name) = name {
-        let all = all.get(name).copied().unwrap_or(0);
-        write_reference(out, inputs, name, number, all)?;
+    if let Some(name) = undefined_name(place) {
+        if before == 0 {
+            write_passed_archive(out, inputs, name)?;
+        }
+        let rest = references(places, name).saturating_sub(REFERENCES);
+        if before.saturating_add(1) == REFERENCES && rest > 0 {
+            let ending = if rest == 1 { "" } else { "s" };
+            write!(out, "; and {rest} more reference{ending} to it")?;
+        }
     }
-    out.write_all(b"\n")?;
-    Ok(true)
+    out.write_all(b"\n")
 }
 
 /// Whether a place asks for a definition that no object has.
@@ -102,20 +107,6 @@ fn is_slim(alloc: Global, file: &InputFile) -> bool {
     }
 }
 
-/// Writes a line for each object file without code of its own.
-fn write_slim_objects<W: Write>(out: &mut W, inputs: Inputs<'_>) -> io::Result<()> {
-    for file in inputs.files {
-        if is_slim(inputs.alloc, file) {
-            let name = Name(file.name.as_bytes());
-            writeln!(
-                out,
-                "{name}: no code, only data for optimization at link time: compile it without -flto, or with -ffat-lto-objects"
-            )?;
-        }
-    }
-    Ok(())
-}
-
 /// Writes the places that were found, at most so many lines, and how many more places there are. Of references to one undefined
 /// name three are told, with the number of the others. Where a definition is missing, a line more for each object file that has
 /// no code of its own.
@@ -125,24 +116,33 @@ pub fn write_places<W: Write>(
     found: &Found<'_>,
     most: u64,
 ) -> io::Result<()> {
-    let (mut all, mut told) = (BTreeMap::new(inputs.alloc), BTreeMap::new(inputs.alloc));
-    for name in found.places().iter().filter_map(undefined_name) {
-        let _ = count(&mut all, name)?;
-    }
+    let places = found.places();
     let mut lines: u64 = 0;
     let mut more = found.more();
-    for place in found.places() {
+    for (i, place) in places.iter().enumerate() {
+        let before = undefined_name(place).map_or(0, |name| references(&places[..i], name));
         if lines >= most {
             more = more.saturating_add(1);
-        } else if write_line(out, inputs, &all, &mut told, place)? {
+        } else if before < REFERENCES {
+            write_line(out, inputs, places, place, before)?;
             lines = lines.saturating_add(1);
         }
     }
     if more > 0 {
         writeln!(out, "and {more} more places")?;
     }
-    if found.places().iter().any(asks_for_code) {
-        write_slim_objects(out, inputs)?;
+    if places.iter().any(asks_for_code) {
+        for file in inputs
+            .files
+            .iter()
+            .filter(|file| is_slim(inputs.alloc, file))
+        {
+            let name = Name(file.name.as_bytes());
+            writeln!(
+                out,
+                "{name}: no code, only data for optimization at link time: compile it without -flto, or with -ffat-lto-objects"
+            )?;
+        }
     }
     Ok(())
 }

@@ -1,76 +1,24 @@
 //! Why a link is refused, phase by phase.
-ghost use Rattle.std.specs.Prelude.{◌≡◌, ◌↔◌, ◌<◌, ◌≤◌, All, IfOk, IsTrue, OnOk, length};
+ghost use Rattle.std.specs.Prelude.{◌≡◌, ◌<◌, ◌≤◌, All, IfOk, OnOk, length};
 ghost use Rattle.elf_model.specs.Own.Causes.{Cause};
 ghost use Rattle.elf_model.specs.Inputs.Command.{IsBase};
-ghost use Rattle.elf_model.specs.declared.faults.LinkError.TheVariants as link_error;
 ghost use Rattle.elf_model.specs.Inputs.Files.{files_of, words_of};
 ghost use Rattle.elf_model.specs.Link.Pieces.{AreLawfulKinds};
-ghost use Rattle.explain.specs.Places.{AreSo, Ground, Holds, OfLoaded, OfPlan, Says};
+ghost use Rattle.explain.specs.Places.{AreSo, Ground, Holds, OfLoaded, Says};
 
-use crate::files::{add_items, add_refused};
-use crate::found::{Added, Found};
-use crate::place::Place;
+use crate::files::add_unloaded;
+use crate::place::{Added, Found, Place};
 use crate::wanted::{Wanted, add_wanted};
 use command::{Plan, read_words, refused_word};
 use elf_model::{CmdFault, InputFile, LinkError};
 use got_tls::slots;
 use layout::{LayoutFault, kinds, mixed_names, place};
-use opening::FileIndex;
 use relocate::{RelocFault, pointer_of, references};
 use resolve::{ResolveFault, Resolved, resolve};
-use search::{Loaded, SearchFault, load};
+use search::{Loaded, load};
 use std::alloc::{AllocError, Global};
 
-/// Adds why a plan isn't loaded.
-fn add_unloaded<'a>(
-    alloc: Global,
-    found: &mut Found<'a>,
-    files: &'a [InputFile],
-    plan: &Plan<'a>,
-    fault: SearchFault,
-) -> Added
-    requires { AreSo (OfPlan (files_of files.now) plan.now) found.old.places.items }
-    ensures { OnOk result (AreSo (OfPlan (files_of files.now) plan.now) found.new.places.items) }
-{
-    let index = FileIndex::new(alloc, files)?;
-    match fault {
-        SearchFault::Memory => Err(AllocError),
-        SearchFault::FileMissing => add_items(alloc, found, &index, plan, false),
-        SearchFault::BadArchive(_) | SearchFault::NoIndex => {
-            add_items(alloc, found, &index, plan, true)
-        }
-        SearchFault::BadObject(_) | SearchFault::Group(_) => {
-            add_refused(alloc, found, files, plan)
-        }
-    }
-}
-
-/// Adds why what is loaded, whose references are lawful, isn't laid out, or the values that then don't fit.
-fn add_unfit<'a>(
-    alloc: Global,
-    found: &mut Found<'a>,
-    loaded: &Loaded<'a>,
-    resolved: &Resolved<'a>,
-) -> Added
-    requires resolved { resolved.now ≡ loaded.now.objects }
-    requires base { IsBase loaded.now.plan.base }
-    requires kinds { AreLawfulKinds loaded.now.objects }
-    requires before { AreSo (OfLoaded loaded.now) found.old.places.items }
-    ensures { OnOk result (AreSo (OfLoaded loaded.now) found.new.places.items) }
-{
-    let slots = slots(alloc, loaded, resolved)?;
-    match place(alloc, loaded, resolved, slots.got(), loaded.plan().base) {
-        Ok(placement) => {
-            let pointer = pointer_of(&placement);
-            let wanted = Wanted::UnfitEntries(resolved, &placement, &slots, pointer);
-            add_wanted(alloc, found, wanted, loaded)
-        }
-        Err(LayoutFault::Memory) => Err(AllocError),
-        Err(_) => add_wanted(alloc, found, Wanted::LargeSections, loaded),
-    }
-}
-
-/// Adds why what is loaded, whose names are resolved, isn't linked.
+/// Adds why what is loaded, whose names are resolved, isn't linked: by its references, its entry, its layout, or its values.
 fn add_unlinked<'a>(
     alloc: Global,
     found: &mut Found<'a>,
@@ -99,7 +47,16 @@ fn add_unlinked<'a>(
     if resolved.entry(entry.as_bytes()).is_none() {
         return found.add(Some(Place::Entry(entry)));
     }
-    add_unfit(alloc, found, loaded, resolved)
+    let slots = slots(alloc, loaded, resolved)?;
+    match place(alloc, loaded, resolved, slots.got(), loaded.plan().base) {
+        Ok(placement) => {
+            let pointer = pointer_of(&placement);
+            let wanted = Wanted::UnfitEntries(resolved, &placement, &slots, pointer);
+            add_wanted(alloc, found, wanted, loaded)
+        }
+        Err(LayoutFault::Memory) => Err(AllocError),
+        Err(_) => add_wanted(alloc, found, Wanted::LargeSections, loaded),
+    }
 }
 
 /// Adds why what is loaded isn't linked.
@@ -119,16 +76,6 @@ fn add_loaded<'a>(alloc: Global, found: &mut Found<'a>, loaded: &Loaded<'a>) -> 
         Err(ResolveFault::Duplicate(name)) => {
             add_wanted(alloc, found, Wanted::Definitions(&name), loaded)
         }
-    }
-}
-
-/// Whether an error is want of memory.
-fn is_memory(error: &LinkError) -> bool
-    ensures { IsTrue result ↔ (error.now ≡ link_error.Memory) }
-{
-    match error {
-        LinkError::Memory => true,
-        _ => false,
     }
 }
 
@@ -177,10 +124,12 @@ pub fn explain<'a>(
     ensures few { IfOk result (λ f. length f.places.items ≤ most) }
     ensures some { IfOk result (λ f. 0 < most → 0 < length f.places.items) }
 {
-    if is_memory(error) {
-        return Err(AllocError);
+    match error {
+        LinkError::Memory => Err(AllocError),
+        _ => {
+            let mut found = Found::new(alloc, most);
+            add_reasons(alloc, &mut found, files, words)?;
+            found.told(error, most)
+        }
     }
-    let mut found = Found::new(alloc, most);
-    add_reasons(alloc, &mut found, files, words)?;
-    found.told(error, most)
 }

@@ -1,64 +1,44 @@
-//! The places that an explanation names.
+//! The places that an explanation names, of which errors they are, and the first of them that were found.
+ghost use Rattle.std.specs.Prelude.{◌≡◌, ◌≢◌, ◌<◌, ◌≤◌, All, IfOk, IfSome, IsTrue, List, OnOk, length, ℕ};
+ghost use Rattle.elf_model.specs.Inputs.Files.{File};
+ghost use Rattle.elf_model.specs.Own.Causes.{Cause};
+ghost use Rattle.elf_model.specs.declared.faults.LinkError.TheVariants as link_error;
+ghost use Rattle.explain.specs.Places.{AreSo, Ground, Holds, IsOf, IsSo, Says};
 
 use bad_parts::BadPart;
 use command::Source;
 use elf_model::{ArFault, CmdFault, GroupFault, LinkError, ObjFault, SectionHeader, Symbol};
+use input_names::RelocationPlace;
 use relocate::RelocationFault;
+use search::Reached;
+use std::alloc::{AllocError, Global};
+use thiserror::Error;
 
-/// Where an object is: its item, the item's file, and its member in there.
+/// A section or a symbol of a loaded object, by its number in the object's table and by its header or entry there.
 #[derive(Clone, Copy, Debug)]
-pub struct ObjectPlace<'a> {
-    /// The number of its item in the command, from 0.
-    pub item: u64,
-    /// The path of its file.
-    pub path: &'a str,
-    /// The offset of its member's header in the archive; 0 for an object item.
-    pub offset: u64,
-}
-
-/// A section of a loaded object.
-#[derive(Clone, Copy, Debug)]
-pub struct SectionPlace<'a> {
-    pub file: ObjectPlace<'a>,
+pub struct EntryPlace<'a, E> {
     /// The number of the object, from 0 in load order.
     pub object: u64,
-    /// The number of the section in its object's section header table.
-    pub section: u64,
-    pub header: SectionHeader,
+    pub number: u64,
+    pub entry: E,
     pub name: &'a [u8],
-}
-
-/// A symbol of a loaded object.
-#[derive(Clone, Copy, Debug)]
-pub struct SymbolPlace<'a> {
-    pub file: ObjectPlace<'a>,
-    /// The number of the object, from 0 in load order.
-    pub object: u64,
-    /// The number of the symbol in its object's symbol table.
-    pub symbol: u64,
-    pub entry: Symbol,
-    pub name: &'a [u8],
-}
-
-/// A kept relocation of a loaded object.
-#[derive(Clone, Copy, Debug)]
-pub struct RelocationPlace<'a> {
-    pub file: ObjectPlace<'a>,
-    pub at: input_names::RelocationPlace<'a>,
 }
 
 /// What is wrong with a symbol.
-#[derive(Clone, Copy, Debug)]
+#[derive(Clone, Copy, Debug, Error)]
 pub enum SymbolFault {
-    /// It is common, and not GLOBAL, of type TLS, or of an alignment that is no power of two up to 2 ^ 21.
+    /// It is common, and unlawfully so.
+    #[error("a common symbol must be GLOBAL, not of type TLS, and aligned to a power of two up to 2^21")]
     BadCommon,
     /// It isn't LOCAL and has no name or stands in a section that takes up no memory; or it stands behind its section's end.
+    #[error("a symbol that isn't LOCAL needs a name and a section that is loaded, and any symbol lies within its section")]
     BadSymbol,
     /// It is a strong definition of a name that has another one.
+    #[error("defined here")]
     Duplicate,
 }
 
-/// Where something is wrong, and what.
+/// Where something is wrong, and what. Of an object it has where loading comes to it, of an archive the same with the offset 0.
 #[derive(Clone, Copy, Debug)]
 pub enum Place<'a> {
     /// A word of the command, by its number from 0; None where all of them together are refused.
@@ -66,25 +46,128 @@ pub enum Place<'a> {
     /// An item of the command, by its number from 0, of which there is no file.
     Missing(u64, Source<'a>),
     /// An item that is read as an archive, and is none.
-    Archive(ObjectPlace<'a>, ArFault),
+    Archive(Reached<'a>, ArFault),
     /// An archive that has no index of its members' names, and is searched by it.
-    NoIndex(ObjectPlace<'a>),
+    NoIndex(Reached<'a>),
     /// An object file that is none of the profile's, and the first part of it that has the fault, where one is found.
-    Object(ObjectPlace<'a>, ObjFault, Option<BadPart<'a>>),
+    Object(Reached<'a>, ObjFault, Option<BadPart<'a>>),
     /// An object whose groups of sections are refused.
-    Groups(ObjectPlace<'a>, GroupFault),
+    Groups(Reached<'a>, GroupFault),
     /// A kept section whose type or flags are none of the profile's.
-    Section(SectionPlace<'a>),
+    Section(Reached<'a>, EntryPlace<'a, SectionHeader>),
     /// A kept section that takes up more than all addresses from the base on.
-    Large(SectionPlace<'a>),
-    Symbol(SymbolPlace<'a>, SymbolFault),
-    Relocation(RelocationPlace<'a>, RelocationFault),
-    /// Two relocations whose fields share a byte.
-    Overlap(RelocationPlace<'a>, RelocationPlace<'a>),
+    Large(Reached<'a>, EntryPlace<'a, SectionHeader>),
+    Symbol(Reached<'a>, EntryPlace<'a, Symbol>, SymbolFault),
+    /// A kept relocation.
+    Relocation(Reached<'a>, RelocationPlace<'a>, RelocationFault),
+    /// Two relocations of an object whose fields share a byte.
+    Overlap(Reached<'a>, RelocationPlace<'a>, RelocationPlace<'a>),
     /// A relocation whose value, the first number, doesn't fit its field; the second number is the field's address.
-    Value(RelocationPlace<'a>, u64, u64),
+    Value(Reached<'a>, RelocationPlace<'a>, u64, u64),
     /// The entry's name, which has no definition, or one in thread-local storage.
     Entry(&'a str),
     /// The inputs as a whole have an error, and no single place of it is told.
     Refused(&'a LinkError),
+}
+
+impl<'a> Place<'a> {
+    /// Whether a place is told of an error: it is of this one, or of another one that is judged together with it.
+    pub fn is_of(&self, error: &LinkError) -> bool
+        ensures { IsTrue result → IsOf error.now self.now }
+    {
+        match (self, error) {
+            (Place::Word(_, _), LinkError::Command(_)) => true,
+            (Place::Missing(_, _), LinkError::FileMissing) => true,
+            (Place::Archive(_, _), LinkError::BadArchive(_) | LinkError::NoIndex) => true,
+            (Place::NoIndex(_), LinkError::BadArchive(_) | LinkError::NoIndex) => true,
+            (Place::Object(_, _, _), LinkError::BadObject(_) | LinkError::BadGroup(_)) => true,
+            (Place::Groups(_, _), LinkError::BadObject(_) | LinkError::BadGroup(_)) => true,
+            (Place::Section(_, _), LinkError::SectionKind) => true,
+            (Place::Symbol(_, _, SymbolFault::BadCommon), LinkError::BadCommon) => true,
+            (Place::Symbol(_, _, SymbolFault::BadSymbol), LinkError::BadSymbol) => true,
+            (Place::Symbol(_, _, SymbolFault::Duplicate), LinkError::Duplicate(_)) => true,
+            (Place::Relocation(_, _, _), LinkError::Undefined(_)) => true,
+            (Place::Relocation(_, _, _), LinkError::RefToDropped) => true,
+            (Place::Relocation(_, _, _), LinkError::RelocKind) => true,
+            (Place::Relocation(_, _, _), LinkError::FieldOutside) => true,
+            (Place::Relocation(_, _, _), LinkError::TlsMismatch) => true,
+            (Place::Relocation(_, _, _), LinkError::MixedSection) => true,
+            (Place::Overlap(_, _, _), LinkError::OverlappingFields) => true,
+            (Place::Entry(_), LinkError::NoEntry) => true,
+            (Place::Large(_, _), LinkError::TooLarge) => true,
+            (Place::Value(_, _, _, _), LinkError::Overflow) => true,
+            _ => false,
+        }
+    }
+}
+
+/// Whether there was memory for what was to be added.
+pub(crate) type Added = Result<(), AllocError>;
+
+/// The first places that were found, and how many more.
+#[derive(Drop)]
+pub struct Found<'a> {
+    places: Vec<Place<'a>>,
+    more: u64,
+    most: usize,
+}
+
+impl<'a> Found<'a> {
+    /// No places; at most so many are kept.
+    pub(crate) fn new(alloc: Global, most: usize) -> Found<'a>
+        ensures { (g : Ground) → AreSo g result.places.items }
+    {
+        Found {
+            places: Vec::new(alloc),
+            more: 0,
+            most,
+        }
+    }
+
+    /// Takes in a place, where there is one: keeps it, or counts it where as many are kept as may be.
+    pub(crate) fn add(&mut self, place: Option<Place<'a>>) -> Added
+        ensures { (g : Ground) → AreSo g self.old.places.items → IfSome place.entry (IsSo g)
+            → OnOk result (AreSo g self.new.places.items) }
+    {
+        let Some(place) = place else {
+            return Ok(());
+        };
+        if self.places.len() >= self.most {
+            self.more = self.more.saturating_add(1);
+            return Ok(());
+        }
+        self.places.push(place)?;
+        Ok(())
+    }
+
+    /// The places that are told of an error, at most so many; where there is none, the error as a whole.
+    pub(crate) fn told(self, error: &'a LinkError, most: usize) -> Result<Found<'a>, AllocError>
+        ensures holds { (files : List File) (words : List (List ℕ)) →
+            error.entry.now ≢ link_error.Memory → Cause files words error.entry.now
+            → All (Says files words) self.entry.places.items
+            → IfOk result (λ f. All (Holds files words) f.places.items) }
+        ensures few { IfOk result (λ f. length f.places.items ≤ most) }
+        ensures some { IfOk result (λ f. 0 < most → 0 < length f.places.items) }
+    {
+        let mut found = self;
+        found.places.retain(|place| place.is_of(error));
+        found.places.truncate(most);
+        if !found.places.is_empty() || most == 0 {
+            return Ok(found);
+        }
+        found.places.push(Place::Refused(error))?;
+        Ok(found)
+    }
+
+    /// The places that are kept, in the order in which they were found.
+    pub fn places(&self) -> &[Place<'a>]
+        ensures { result.now ≡ self.now.places.items }
+    {
+        self.places.as_slice()
+    }
+
+    /// How many more were found.
+    pub fn more(&self) -> u64 {
+        self.more
+    }
 }

@@ -1,34 +1,29 @@
 //! How a place reads: a line that names the object, what is wrong in it, and why.
 
-use crate::place::{ObjectPlace, Place, RelocationPlace, SectionPlace, SymbolFault, SymbolPlace};
-use crate::surroundings::{function_at, section_of};
-use bad_parts::BadPart;
+use crate::place::Place;
+use byteview::View;
 use command::Source;
-use elf_model::{ArFault, CmdFault, InputFile, LinkError, ObjFault, SHF_LINK_ORDER};
+use elf_model::{ArFault, InputFile, LinkError, ObjFault, SHF_LINK_ORDER, STT_FUNC, Symbol};
+use elf_read::ObjectFile;
 use input_names::{
-    Called, FaultOf, Name, ObjectName, RelocationEntry, RelocationFault as Fault, RelocationSymbol,
-    SectionFlags, SectionType, file_kind, object_bytes,
+    Called, FaultOf, Name, ObjectName, RelocationEntry, RelocationFault as Fault, RelocationPlace,
+    RelocationSymbol, SectionFlags, SectionType, file_kind,
 };
 use relocate::{Kind, Range, RelocationFault};
+use search::Reached;
 use std::alloc::Global;
 use std::fmt;
 use std::fmt::{Formatter, Write};
 
-/// The inputs that places are of, and where objects are read into again.
-#[derive(Clone, Copy)]
-pub struct Inputs<'i> {
-    pub alloc: Global,
-    pub files: &'i [InputFile],
-    pub words: &'i [String],
-}
-
-/// Writes a word and a name after a space each, where there is a name.
-fn write_named<W: Write>(f: &mut Formatter<W>, word: &str, name: Option<&[u8]>) -> fmt::Result {
-    match name {
-        Some(name) => write!(f, " {word} {}", Name(name)),
-        None => Ok(()),
-    }
-}
+/// What avoids flags that are not linked.
+static SECTION_HINTS: [(u64, &str); 3] = [
+    (
+        0x20_0000,
+        ", as of __attribute__((retain)) or Rust's #[used]",
+    ),
+    (0x1000_0000, ": -mcmodel=small avoids it"),
+    (SHF_LINK_ORDER, ", as of -fpatchable-function-entry"),
+];
 
 /// Whether a word names a file: its path, or `-lNAME` for a path that ends in `libNAME.a`.
 fn names_file(word: &str, path: &str) -> bool {
@@ -37,30 +32,6 @@ fn names_file(word: &str, path: &str) -> bool {
     };
     let front = path.strip_suffix(".a").and_then(|p| p.strip_suffix(name));
     front.is_some_and(|front| front.ends_with("/lib"))
-}
-
-/// What avoids flags that are not linked.
-fn section_hint(flags: u64) -> &'static str {
-    if flags & 0x20_0000 != 0 {
-        return ", as of __attribute__((retain)) or Rust's #[used]";
-    }
-    if flags & 0x1000_0000 != 0 {
-        return ": -mcmodel=small avoids it";
-    }
-    if flags & SHF_LINK_ORDER != 0 {
-        return ", as of -fpatchable-function-entry";
-    }
-    ""
-}
-
-fn symbol_text(fault: SymbolFault) -> &'static str {
-    match fault {
-        SymbolFault::BadCommon =>
-            "a common symbol must be GLOBAL, not of type TLS, and aligned to a power of two up to 2^21",
-        SymbolFault::BadSymbol =>
-            "a symbol that isn't LOCAL needs a name and a section that is loaded, and any symbol lies within its section",
-        SymbolFault::Duplicate => "defined here",
-    }
 }
 
 /// What is wrong with a relocation.
@@ -86,22 +57,24 @@ fn hint(kind: u32, fault: RelocationFault) -> &'static str {
 }
 
 /// Writes which values fit the field of a type of relocations.
-fn write_fitting<W: Write>(f: &mut Formatter<W>, kind: Kind) -> fmt::Result {
-    let (low, half, whole): (u64, u64, u64) = match kind.width {
-        1 => (0x80, 0x7f, 0xff),
-        2 => (0x8000, 0x7fff, 0xffff),
-        _ => (0x8000_0000, 0x7fff_ffff, 0xffff_ffff),
+fn write_fitting<W: Write>(f: &mut Formatter<W>, kind: u32) -> fmt::Result {
+    let Some(Kind { width, range, .. }) = Kind::of(kind) else {
+        return Ok(());
     };
-    match kind.range {
+    let half: u64 = match width {
+        1 => 0x80,
+        2 => 0x8000,
+        _ => 0x8000_0000,
+    };
+    let (below, top) = (half - 1, half + (half - 1));
+    match range {
         Range::Always => Ok(()),
-        Range::Signed => write!(f, ", which takes -{low:#x} to {half:#x}"),
-        Range::Unsigned => write!(f, ", which takes 0 to {whole:#x}"),
-        Range::Either => write!(f, ", which takes -{low:#x} to {whole:#x}"),
+        Range::Signed => write!(f, ", which takes -{half:#x} to {below:#x}"),
+        Range::Unsigned => write!(f, ", which takes 0 to {top:#x}"),
+        Range::Either => write!(f, ", which takes -{half:#x} to {top:#x}"),
     }?;
-    match kind.width {
-        4 => f.write_str("; code of -mcmodel=large has no such limit"),
-        _ => Ok(()),
-    }
+    let hint = "; code of -mcmodel=large has no such limit";
+    f.write_str(if width == 4 { hint } else { "" })
 }
 
 /// What a fault of an object says in short; docs/PROFILE.md says it whole.
@@ -124,119 +97,102 @@ fn object_text(fault: ObjFault) -> &'static str {
     }
 }
 
-impl Inputs<'_> {
-    /// The path of an object's file, and the member that it is; and the number of its item, where more than one word names the
-    /// file.
-    fn file<W: Write>(self, f: &mut Formatter<W>, place: &ObjectPlace<'_>) -> fmt::Result {
-        let path = place.path;
-        write!(f, "{}", ObjectName::new(self.files, path, place.offset))?;
-        let words = self.words.iter();
+/// Whether a symbol is a function with a byte at an offset of a section.
+fn covers(symbol: &Symbol, section: u32, offset: u64) -> bool {
+    symbol.symbol_type() == STT_FUNC
+        && u32::from(symbol.st_shndx) == section
+        && symbol.st_value <= offset
+        && offset - symbol.st_value < symbol.st_size
+}
+
+/// The inputs that places are of, and where objects are read into again.
+#[derive(Clone, Copy)]
+pub struct Inputs<'i> {
+    pub alloc: Global,
+    pub files: &'i [InputFile],
+    pub words: &'i [String],
+}
+
+/// An object of inputs, which reads as the path of its file and the member that it is; and the number of its item, where more
+/// than one word names the file.
+#[derive(Clone, Copy)]
+struct At<'i, 'p, 'a> {
+    inputs: Inputs<'i>,
+    object: &'p Reached<'a>,
+}
+
+impl fmt::Display for At<'_, '_, '_> {
+    fn fmt<W: Write>(&self, f: &mut Formatter<W>) -> fmt::Result {
+        let (inputs, path) = (self.inputs, self.object.path);
+        write!(
+            f,
+            "{}",
+            ObjectName::new(inputs.files, path, self.object.offset)
+        )?;
+        let words = inputs.words.iter();
         if words.filter(|w| names_file(w.as_str(), path)).count() > 1 {
-            write!(f, " (item {})", place.item)?;
+            write!(f, " (item {})", self.object.item)?;
         }
         f.write_str(": ")
     }
+}
 
-    /// A section, in front of what is wrong with it.
-    fn section<W: Write>(self, f: &mut Formatter<W>, place: &SectionPlace<'_>) -> fmt::Result {
-        self.file(f, &place.file)?;
-        write!(f, "section {} {}: ", place.section, Name(place.name))
+impl<'a> At<'_, '_, 'a> {
+    /// The object; None where it isn't one that is read.
+    fn read(self) -> Option<ObjectFile<'a>> {
+        ObjectFile::read(self.inputs.alloc, View::new(self.object.bytes)).ok()
     }
 
-    fn symbol<W: Write>(self, f: &mut Formatter<W>, place: &SymbolPlace<'_>) -> fmt::Result {
-        self.file(f, &place.file)?;
-        write!(f, "symbol {}{}", place.symbol, Called(place.name))?;
-        let section = section_of(self, &place.file, place.symbol as usize);
-        write_named(f, "of", section)?;
-        f.write_str(": ")
+    /// The section in which symbol `j` is defined, where it is in one.
+    fn section_of(self, j: usize) -> Option<&'a [u8]> {
+        let object = self.read()?;
+        let symbol = object.symbol(j);
+        if symbol.is_undefined() {
+            return None;
+        }
+        object.section_name(symbol.st_shndx as usize)
+    }
+
+    /// The function that a byte of a section belongs to, where a symbol says so.
+    fn function_at(self, section: u32, offset: u64) -> Option<&'a [u8]> {
+        let object = self.read()?;
+        let mut symbols = 0..object.symbols().len();
+        let j = symbols.find(|j| covers(&object.symbol(*j), section, offset))?;
+        Some(object.symbol_name(j))
+    }
+
+    /// What a file is that is no object or no archive, where this is wanted and its first bytes tell.
+    fn kind<W: Write>(self, f: &mut Formatter<W>, wanted: bool) -> fmt::Result {
+        match file_kind(self.object.bytes) {
+            Some(kind) if wanted => write!(f, ": {kind}"),
+            _ => Ok(()),
+        }
     }
 
     /// Where a relocation is: its section, its offset there and its function.
     fn field<W: Write>(self, f: &mut Formatter<W>, place: &RelocationPlace<'_>) -> fmt::Result {
-        self.file(f, &place.file)?;
-        let offset = place.at.entry.r_offset;
-        write!(f, "{}+{offset:#x}", Name(place.at.section_name))?;
-        let function = function_at(self, &place.file, place.at.section, offset);
-        write_named(f, "in", function)?;
-        f.write_str(": ")
+        let (section, offset) = (Name(place.section_name), place.entry.r_offset);
+        let function = Called("in ", self.function_at(place.section, offset));
+        write!(f, "{self}{section}+{offset:#x}{function}: ")
     }
 
-    /// Which entry a relocation is, its type and its symbol, by its number and, where this is wanted, its name, with the section
-    /// of that.
-    fn entry<W: Write>(
-        self,
-        f: &mut Formatter<W>,
-        place: &RelocationPlace<'_>,
-        named: bool,
-    ) -> fmt::Result {
-        write!(f, "{}", RelocationEntry(&place.at, named))?;
-        let symbol = place.at.entry.symbol() as usize;
-        write_named(f, "of", section_of(self, &place.file, symbol))
+    /// Which entry a relocation is, its type and its symbol with the section of that.
+    fn entry<W: Write>(self, f: &mut Formatter<W>, entry: RelocationEntry<'_, '_>) -> fmt::Result {
+        let section = self.section_of(entry.0.entry.symbol() as usize);
+        write!(f, "{entry}{}", Called("of ", section))
     }
 
     /// Which entry a relocation is, behind what is wrong with it.
     fn note<W: Write>(self, f: &mut Formatter<W>, place: &RelocationPlace<'_>) -> fmt::Result {
         f.write_str(" (")?;
-        self.entry(f, place, false)?;
+        self.entry(f, RelocationEntry(place, false))?;
         f.write_str(")")
     }
 
-    /// Where a relocation is, and which entry.
+    /// Where a relocation is, and which entry, with its symbol's name.
     fn whole<W: Write>(self, f: &mut Formatter<W>, place: &RelocationPlace<'_>) -> fmt::Result {
         self.field(f, place)?;
-        self.entry(f, place, true)
-    }
-
-    /// The word at which a command is refused, and what it says.
-    fn word<W: Write>(self, f: &mut Formatter<W>, at: Option<u64>, fault: CmdFault) -> fmt::Result {
-        let Some(number) = at else {
-            return write!(f, "the words together: {fault}");
-        };
-        match self.words.get(number as usize) {
-            Some(word) => write!(f, "word {number} {}: {fault}", Name(word.as_bytes())),
-            None => write!(f, "word {number}: {fault}"),
-        }
-    }
-
-    /// What a file is that is no object or no archive, where its first bytes tell.
-    fn kind<W: Write>(self, f: &mut Formatter<W>, place: &ObjectPlace<'_>) -> fmt::Result {
-        match object_bytes(self.files, place.path, place.offset).and_then(file_kind) {
-            Some(kind) => write!(f, ": {kind}"),
-            None => Ok(()),
-        }
-    }
-
-    /// The fault of an object, and the part of it that has the fault, where one is told; else what the file is.
-    fn object<W: Write>(
-        self,
-        f: &mut Formatter<W>,
-        place: &ObjectPlace<'_>,
-        fault: ObjFault,
-        part: &Option<BadPart<'_>>,
-    ) -> fmt::Result {
-        self.file(f, place)?;
-        if let Some(part) = part {
-            return write!(f, "{fault}: {part}");
-        }
-        write!(f, "{fault}: {}", object_text(fault))?;
-        self.kind(f, place)
-    }
-}
-
-/// An item of the command of which there is no file.
-fn write_missing<W: Write>(f: &mut Formatter<W>, number: u64, source: Source<'_>) -> fmt::Result {
-    match source {
-        Source::Path(path) => {
-            let name = Name(path.as_bytes());
-            write!(f, "{name}: item {number}: there is no such file")
-        }
-        Source::Library(name) => {
-            let name = Name(name.as_bytes());
-            write!(
-                f,
-                "-l{name}: item {number}: no directory of -L has lib{name}.a"
-            )
-        }
+        self.entry(f, RelocationEntry(place, true))
     }
 }
 
@@ -252,42 +208,55 @@ impl PlaceText<'_, '_, '_> {
     fn linked<W: Write>(&self, f: &mut Formatter<W>) -> fmt::Result {
         let inputs = self.inputs;
         match self.place {
-            Place::Section(place) => {
-                inputs.section(f, place)?;
-                let (kind, flags) = (place.header.sh_type, place.header.sh_flags);
-                write!(f, "{}, {}: ", SectionType(kind), SectionFlags(flags))?;
-                write!(f, "not linked{}", section_hint(flags))
+            Place::Section(object, section) => {
+                let (at, header) = (At { inputs, object }, &section.entry);
+                let (kind, flags) = (SectionType(header.sh_type), SectionFlags(header.sh_flags));
+                let hint = SECTION_HINTS
+                    .iter()
+                    .find(|hint| header.sh_flags & hint.0 != 0);
+                write!(f, "{at}section {} {}: ", section.number, Name(section.name))?;
+                write!(
+                    f,
+                    "{kind}, {flags}: not linked{}",
+                    hint.map_or("", |hint| hint.1)
+                )
             }
-            Place::Large(place) => {
-                inputs.section(f, place)?;
-                let size = place.header.sh_size;
-                write!(f, "{size:#x} bytes, more than the addresses ")?;
-                f.write_str("from the base on up to 2^46")
+            Place::Large(object, section) => {
+                let (at, size) = (At { inputs, object }, section.entry.sh_size);
+                write!(f, "{at}section {} {}: ", section.number, Name(section.name))?;
+                write!(
+                    f,
+                    "{size:#x} bytes, more than the addresses from the base on up to 2^46"
+                )
             }
-            Place::Symbol(place, fault) => {
-                inputs.symbol(f, place)?;
-                f.write_str(symbol_text(*fault))
+            Place::Symbol(object, symbol, fault) => {
+                let (at, number) = (At { inputs, object }, symbol.number);
+                let section = Called("of ", at.section_of(number as usize));
+                write!(
+                    f,
+                    "{at}symbol {number}{}{section}: {fault}",
+                    Called("", Some(symbol.name))
+                )
             }
-            Place::Relocation(place, fault) => {
-                inputs.field(f, place)?;
-                let hint = hint(place.at.entry.kind(), *fault);
-                write!(f, "{}{hint}", FaultOf(fault_of(*fault), &place.at))?;
-                inputs.note(f, place)
+            Place::Relocation(object, place, fault) => {
+                let (at, hint) = (At { inputs, object }, hint(place.entry.kind(), *fault));
+                at.field(f, place)?;
+                write!(f, "{}{hint}", FaultOf(fault_of(*fault), place))?;
+                at.note(f, place)
             }
-            Place::Overlap(first, second) => {
-                inputs.whole(f, first)?;
+            Place::Overlap(object, first, second) => {
+                let at = At { inputs, object };
+                at.whole(f, first)?;
                 f.write_str(": its field shares a byte with that of ")?;
-                inputs.whole(f, second)
+                at.whole(f, second)
             }
-            Place::Value(place, value, address) => {
-                inputs.field(f, place)?;
-                let symbol = RelocationSymbol(&place.at);
+            Place::Value(object, place, value, address) => {
+                let (at, symbol) = (At { inputs, object }, RelocationSymbol(place));
+                at.field(f, place)?;
                 write!(f, "the value {value:#x} for {symbol} does not fit the ")?;
                 write!(f, "field at {address:#x}")?;
-                if let Some(kind) = Kind::of(place.at.entry.kind()) {
-                    write_fitting(f, kind)?;
-                }
-                inputs.note(f, place)
+                write_fitting(f, place.entry.kind())?;
+                at.note(f, place)
             }
             _ => Ok(()),
         }
@@ -298,28 +267,47 @@ impl fmt::Display for PlaceText<'_, '_, '_> {
     fn fmt<W: Write>(&self, f: &mut Formatter<W>) -> fmt::Result {
         let inputs = self.inputs;
         match self.place {
-            Place::Word(number, fault) => inputs.word(f, *number, *fault),
-            Place::Missing(number, source) => write_missing(f, *number, *source),
-            Place::Archive(file, fault) => {
-                inputs.file(f, file)?;
-                write!(f, "{fault}")?;
-                match fault {
-                    ArFault::NotArchive => inputs.kind(f, file),
-                    _ => Ok(()),
-                }
+            Place::Word(None, fault) => write!(f, "the words together: {fault}"),
+            Place::Word(Some(number), fault) => {
+                let word = inputs.words.get(*number as usize);
+                let word = Called("", word.map(|word| word.as_bytes()));
+                write!(f, "word {number}{word}: {fault}")
             }
-            Place::NoIndex(file) => {
-                inputs.file(f, file)?;
-                f.write_str("the archive has no index: ranlib makes one")
+            Place::Missing(number, Source::Path(path)) => {
+                let name = Name(path.as_bytes());
+                write!(f, "{name}: item {number}: there is no such file")
             }
-            Place::Object(file, fault, part) => inputs.object(f, file, *fault, part),
-            Place::Groups(file, fault) => {
-                inputs.file(f, file)?;
-                write!(f, "{fault}")
+            Place::Missing(number, Source::Library(name)) => {
+                let name = Name(name.as_bytes());
+                write!(
+                    f,
+                    "-l{name}: item {number}: no directory of -L has lib{name}.a"
+                )
             }
+            Place::Archive(object, fault) => {
+                let at = At { inputs, object };
+                write!(f, "{at}{fault}")?;
+                at.kind(f, *fault == ArFault::NotArchive)
+            }
+            Place::NoIndex(object) => {
+                let at = At { inputs, object };
+                write!(f, "{at}the archive has no index: ranlib makes one")
+            }
+            Place::Object(object, fault, Some(part)) => {
+                write!(f, "{}{fault}: {part}", At { inputs, object })
+            }
+            Place::Object(object, fault, None) => {
+                let at = At { inputs, object };
+                write!(f, "{at}{fault}: {}", object_text(*fault))?;
+                at.kind(f, true)
+            }
+            Place::Groups(object, fault) => write!(f, "{}{fault}", At { inputs, object }),
             Place::Entry(name) => {
-                write!(f, "the entry {} has no definition ", Name(name.as_bytes()))?;
-                f.write_str("outside thread-local storage")
+                let name = Name(name.as_bytes());
+                write!(
+                    f,
+                    "the entry {name} has no definition outside thread-local storage"
+                )
             }
             Place::Refused(LinkError::TooLarge) => f.write_str(
                 "all together: the addresses end above 2^46, or the image has 2^32 bytes or more",

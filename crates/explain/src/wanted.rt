@@ -1,18 +1,25 @@
-//! What is looked for in the objects that are loaded, object by object.
-ghost use Rattle.std.specs.Prelude.{OnOk};
-ghost use Rattle.explain.specs.Places.{AreSo, OfLoaded};
-ghost use Rattle.explain.specs.Wanted.{MayBeAsked};
+//! What is looked for in the objects that are loaded: sections, symbols and relocations, each where it is wrong.
+ghost use Rattle.std.specs.Prelude.{◌≡◌, IfSome, OnOk, Some};
+ghost use Rattle.std.specs.List.{slice_get};
+ghost use Rattle.elf_model.specs.Link.Relocation.{Relocation, width_of};
+ghost use Rattle.input_names.specs.RelocationPlaces.{IsKeptOf};
+ghost use Rattle.search.specs.Faults.{IsObjectAt};
+ghost use Rattle.search.specs.Views.{loaded_view};
+ghost use Rattle.relocate.specs.SymbolTables.{IsReferrer, IsValued, all_of, all_valued};
+ghost use Rattle.explain.specs.Places.{AreSo, HoldsIn, MayBeAsked, OfLoaded, basis_of};
 
-use crate::entries::kept_entries;
-use crate::found::{Added, Found};
-use crate::judged::{object_at, overlap, unfit_entry, unlawful_entry, wrong_section, wrong_symbol};
+use crate::place::{Added, EntryPlace, Found, Place, SymbolFault};
 use got_tls::Slots;
-use layout::Placement;
-use relocate::{Referrer, Valued};
-use resolve::Resolved;
-use search::Loaded;
-use std::alloc::Global;
+use input_names::{RelocationPlace, begins_in, relocation_place, section_name};
+use layout::{Placement, is_lawful_if_kept};
+use relocate::{Kind, Referrer, Valued, address_or_none, fitting_value, lawful_kind, wanted_value};
+use resolve::{Resolved, is_dropped, is_sound, is_sound_common, is_strong};
+use search::{Loaded, LoadedObject, Reached, is_some_kind};
+use std::alloc::{AllocError, Global};
 use std::collections::BTreeSet;
+
+/// All addresses of an image are below this one.
+const TOP: u64 = 1 << 46;
 
 /// What is wrong, and looked for.
 #[derive(Clone, Copy)]
@@ -33,6 +40,192 @@ pub enum Wanted<'w, 'a> {
     Overlaps,
     /// Kept relocations whose values don't fit, where objects are laid out, the GOT has slots, and the thread pointer is known.
     UnfitEntries(&'w Resolved<'a>, &'w Placement<'a>, &'w Slots<'a>, u64),
+}
+
+/// A place at which something is wrong, where there is one.
+type Wrong<'a> = Option<Place<'a>>;
+
+/// The loaded object that has a number.
+fn object_at<'l, 'a>(loaded: &'l Loaded<'a>, k: usize) -> Option<&'l LoadedObject<'a>>
+    ensures { IfSome result (λ one. slice_get loaded.now.objects k ≡ Some (loaded_view one.now)) }
+{
+    loaded.objects().get(k)
+}
+
+/// Where a loaded object is.
+fn reached<'a>(one: &LoadedObject<'a>) -> Reached<'a>
+    ensures { IsObjectAt result (loaded_view one.now) }
+{
+    Reached {
+        item: one.item,
+        path: one.path,
+        offset: one.offset,
+        bytes: one.object.bytes(),
+    }
+}
+
+/// Kept section `n` of object `k`, where it is wrong.
+fn wrong_section<'a>(loaded: &Loaded<'a>, wanted: Wanted<'_, 'a>, k: usize, n: usize) -> Wrong<'a>
+    requires { MayBeAsked loaded.now wanted }
+    ensures { IfSome result (HoldsIn loaded.now) }
+{
+    let one = object_at(loaded, k)?;
+    let i = *one.kept_sections().get(n)? as usize;
+    let entry = one.object.sections().get(i)?;
+    let place = EntryPlace {
+        object: k as u64,
+        number: i as u64,
+        entry,
+        name: section_name(&one.object, i),
+    };
+    match wanted {
+        Wanted::UnlawfulSections if !is_lawful_if_kept(one, i, &entry) => {
+            Some(Place::Section(reached(one), place))
+        }
+        Wanted::LargeSections
+            if entry.sh_size > TOP - loaded.plan().base && one.is_kept(i, &entry) => {
+            Some(Place::Large(reached(one), place))
+        }
+        _ => None,
+    }
+}
+
+/// Symbol `j` of object `k`, where it is wrong.
+fn wrong_symbol<'a>(loaded: &Loaded<'a>, wanted: Wanted<'_, 'a>, k: usize, j: usize) -> Wrong<'a>
+    requires { MayBeAsked loaded.now wanted }
+    ensures { IfSome result (HoldsIn loaded.now) }
+{
+    let one = object_at(loaded, k)?;
+    let entry = one.object.symbols().get(j)?;
+    let place = EntryPlace {
+        object: k as u64,
+        number: j as u64,
+        entry,
+        name: one.object.symbol_name(j),
+    };
+    match wanted {
+        Wanted::UnsoundCommons if !is_sound_common(k as u64, one, j, &entry) => {
+            Some(Place::Symbol(reached(one), place, SymbolFault::BadCommon))
+        }
+        Wanted::UnsoundSymbols if !is_sound(loaded.objects(), k as u64, one, j, &entry) => {
+            Some(Place::Symbol(reached(one), place, SymbolFault::BadSymbol))
+        }
+        Wanted::Definitions(name)
+            if place.name == name && is_strong(&entry, is_dropped(one, &entry)) => {
+            Some(Place::Symbol(reached(one), place, SymbolFault::Duplicate))
+        }
+        _ => None,
+    }
+}
+
+/// An entry of a RELA section of an object.
+#[derive(Clone, Copy, Debug)]
+struct EntryAt {
+    /// The number of the section that it relocates, and its offset in there.
+    section: u32,
+    offset: u64,
+    /// The number of the RELA section, and its own in there, from 0.
+    table: usize,
+    number: usize,
+}
+
+/// The entries of the kept RELA sections of an object, in the order of these.
+fn kept_entries(alloc: Global, one: &LoadedObject<'_>) -> Result<Vec<EntryAt>, AllocError> {
+    let mut entries = Vec::new(alloc);
+    for rela in one.kept_relas() {
+        let run = one.all_entries(*rela);
+        for number in 0..run.len() {
+            entries.push(EntryAt {
+                section: rela.target,
+                offset: run.at(number).r_offset,
+                table: rela.number as usize,
+                number,
+            })?;
+        }
+    }
+    Ok(entries)
+}
+
+/// The place of the kept relocation that an entry of object `k` is, where it is one.
+fn relocation_at<'a>(
+    loaded: &Loaded<'a>,
+    k: usize,
+    one: &LoadedObject<'a>,
+    at: &EntryAt,
+) -> Option<RelocationPlace<'a>>
+    requires { slice_get loaded.now.objects k ≡ Some (loaded_view one.now) }
+    ensures there { IfSome result (λ p.
+        slice_get loaded.now.objects p.object ≡ Some (loaded_view one.now)) }
+    ensures kept { IfSome result (IsKeptOf loaded.now.objects k (loaded_view one.now)) }
+{
+    let _loaded = loaded;
+    let (object, i) = (&one.object, at.table);
+    let header = object.sections().get(i)?;
+    if !one.is_kept_rela(i, &header) {
+        return None;
+    }
+    let entry = one.entries_of(i, &header).get(at.number)?;
+    if !is_some_kind(&entry) {
+        return None;
+    }
+    Some(relocation_place(k, object, i, &header, at.number, &entry))
+}
+
+/// An entry, where it isn't lawful.
+fn unlawful_entry<'a>(
+    loaded: &Loaded<'a>,
+    referrer: &Referrer<'_, '_, 'a>,
+    at: &EntryAt,
+) -> Wrong<'a>
+    requires known { IsReferrer referrer.now }
+    requires same { all_of referrer.now ≡ loaded.now.objects }
+    ensures { IfSome result (HoldsIn loaded.now) }
+{
+    let place = relocation_at(loaded, referrer.number, referrer.loaded, at)?;
+    let target = referrer.relocated(place.section as u64);
+    match lawful_kind(referrer, target, &place.entry) {
+        Ok(_) => None,
+        Err(fault) => Some(Place::Relocation(reached(referrer.loaded), place, fault)),
+    }
+}
+
+/// An entry, where its value doesn't fit.
+fn unfit_entry<'a>(loaded: &Loaded<'a>, valued: &Valued<'_, 'a>, at: &EntryAt) -> Wrong<'a>
+    requires known { IsValued valued.now }
+    requires same { all_valued valued.now ≡ loaded.now.objects }
+    requires placed { valued.now.placement.now ≡ basis_of loaded.now }
+    ensures { IfSome result (HoldsIn loaded.now) }
+{
+    let place = relocation_at(loaded, valued.number, valued.loaded, at)?;
+    let (entry, target) = (place.entry, place.section as u64);
+    let kind = Kind::of(entry.kind())?;
+    let at = address_or_none(valued.placement, valued.number, target as usize);
+    let None = fitting_value(valued, target, at, &entry) else {
+        return None;
+    };
+    let value = wanted_value(valued, target, at, kind, &entry);
+    let address = at.wrapping_add(entry.r_offset);
+    Some(Place::Value(reached(valued.loaded), place, value, address))
+}
+
+/// The width of a relocation's field in bytes.
+fn width(place: &RelocationPlace<'_>) -> Option<u64>
+    ensures { IfSome result (λ n. (r : Relocation) → r.entry ≡ place.now.entry → n ≡ width_of r) }
+{
+    Some(u64::from(Kind::of(place.entry.kind())?.width))
+}
+
+/// Two entries of object `k`, where the field of the second one begins inside that of the first one.
+fn overlap<'a>(loaded: &Loaded<'a>, k: usize, first: &EntryAt, second: &EntryAt) -> Wrong<'a>
+    ensures { IfSome result (HoldsIn loaded.now) }
+{
+    let one = object_at(loaded, k)?;
+    let first = relocation_at(loaded, k, one, first)?;
+    let second = relocation_at(loaded, k, one, second)?;
+    if !begins_in(&first, width(&first)?, &second, width(&second)?) {
+        return None;
+    }
+    Some(Place::Overlap(reached(one), first, second))
 }
 
 /// Adds what is wrong with object `k`.

@@ -1,24 +1,18 @@
 -- A place that has the numbers of a kept relocation, and tells of it, is its place.
-use Rattle.std.proofs.Common.{◌≡◌, ◌∙◌, ℕ, true, List, [], Some, ap, subst, sym}
-use Rattle.std.specs.Prelude.{unwrap_or}
+use Rattle.std.proofs.Common.{◌≡◌, ◌∙◌, ℕ, true, List, Some, ap, subst, sym}
 use Rattle.std.specs.List.{slice_get}
 use Rattle.elf_model.specs.Link.Loading.{LoadedObject}
-use Rattle.elf_model.specs.Inputs.ObjectFile.{rela_symbol, relas_of, section_name, sections, symbol_name}
+use Rattle.elf_model.specs.Inputs.ObjectFile.{relas_of, sections}
 use Rattle.elf_model.specs.Link.Relocation.{is_kept_rela, is_some_kind, relocation_of}
 use Rattle.elf_model.specs.declared.records.Rela.{Rela}
 use Rattle.elf_model.specs.declared.records.SectionHeader.{SectionHeader}
+use Rattle.input_names.specs.RelocationPlaces as places
 use Rattle.input_names.specs.RelocationPlaces.{IsKeptOf, IsRelocationAt}
 use Rattle.input_names.specs.declared.relocation_places.RelocationPlace.{RelocationPlace}
 
--- a place has the numbers of an entry, and tells of what it relocates
-pub record HasNumbers (p : RelocationPlace) (o : LoadedObject) (h : SectionHeader) (n i e : ℕ) (x : Rela) : Type 0 where
-  pub object : p.object ≡ n
-  pub table : p.table ≡ i
-  pub number : p.number ≡ e
-  pub entry : p.entry ≡ x
-  pub section : p.section ≡ h.sh_info
-  pub section_name : p.section_name.now ≡ unwrap_or (section_name o.bytes h.sh_info) []
-  pub symbol_name : p.symbol_name.now ≡ unwrap_or (symbol_name o.bytes (rela_symbol x)) []
+-- it has the numbers of an entry of a loaded object
+abbrev pub HasNumbers : RelocationPlace → LoadedObject → SectionHeader → ℕ → ℕ → ℕ → Rela → Type 0
+HasNumbers p o h n i e x = places.HasNumbers p o.bytes h n i e x
 
 pub placed :
     (objects : List LoadedObject) (p : RelocationPlace) (o : LoadedObject) (h : SectionHeader) (n i e : ℕ) (x : Rela) → HasNumbers p o h n i e x →

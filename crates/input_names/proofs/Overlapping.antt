@@ -3,7 +3,7 @@ use Rattle.std.proofs.Common.{◌≡◌, ◌∙◌, ℕ, ◌<◌, ◌≤◌, ◌
 use Rattle.elf_model.specs.Link.Loading.{LoadedObject}
 use Rattle.elf_model.specs.Link.Relocation.{AreFieldsApart, Relocation, is_in_field, width_of}
 use Rattle.elf_model.proofs.RelocationFields.{field_has}
-use Rattle.input_names.specs.RelocationPlaces.{BeginsIn, IsRelocationAt}
+use Rattle.input_names.specs.RelocationPlaces.{BeginsIn, IsOverlap, IsRelocationAt}
 use Rattle.input_names.specs.declared.relocation_places.RelocationPlace.{RelocationPlace}
 
 object_is : (objects : List LoadedObject) (p : RelocationPlace) (r : Relocation) → IsRelocationAt objects p r → r.object ≡ p.object
@@ -28,3 +28,16 @@ not_apart objects p q r t a b begins apart = apart q.object q.section q.entry.r_
         let o = offset_is objects q t b in
         let some = begins.some in
         field_has q.object q.section q.entry.r_offset t (object_is objects q t b) (sym b.told.section) (omega (arith, o)) (omega (arith, o, some))
+
+-- two places are those of an overlap, where the widths that say so are those of their relocations
+pub overlap_of :
+    (objects : List LoadedObject) (p q : RelocationPlace) (r t : Relocation) (n m : ℕ) → IsRelocationAt objects p r → IsRelocationAt objects q t →
+    n ≡ width_of r → m ≡ width_of t → BeginsIn p n q m → IsOverlap objects p q
+overlap_of objects p q r t n m a b wide other begins = record {
+  two = begins.two;
+  r = r;
+  t = t;
+  first = a;
+  second = b;
+  wrong = not_apart objects p q r t a b (subst (λ (k : ℕ). BeginsIn p k q (width_of t)) wide (subst (λ (k : ℕ). BeginsIn p n q k) other begins));
+}

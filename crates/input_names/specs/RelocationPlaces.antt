@@ -1,11 +1,22 @@
 -- What a place of a relocation says of the loaded objects, and when the field of one begins inside that of another.
-use Rattle.std.specs.Prelude.{◌≡◌, ◌+◌, ◌<◌, ◌≤◌, ℕ, true, List, Some}
+use Rattle.std.specs.Prelude.{◌≡◌, ◌+◌, ◌<◌, ◌≤◌, ℕ, true, List, [], Some, unwrap_or}
 use Rattle.std.specs.List.{slice_get}
 use Rattle.elf_model.specs.Link.Loading.{LoadedObject}
-use Rattle.elf_model.specs.Inputs.ObjectFile.{relas_of, sections}
+use Rattle.elf_model.specs.Inputs.ObjectFile.{rela_symbol, relas_of, section_name, sections, symbol_name}
 use Rattle.elf_model.specs.Link.Relocation.{AreFieldsApart, Relocation, is_kept_rela, is_some_kind, relocation_of}
+use Rattle.elf_model.specs.declared.records.Rela.{Rela}
 use Rattle.elf_model.specs.declared.records.SectionHeader.{SectionHeader}
 use Rattle.input_names.specs.declared.relocation_places.RelocationPlace.{RelocationPlace}
+
+-- a place has the numbers of an entry of an object, and tells of what it relocates
+pub record HasNumbers (p : RelocationPlace) (bytes : List ℕ) (h : SectionHeader) (n i e : ℕ) (x : Rela) : Type 0 where
+  pub object : p.object ≡ n
+  pub table : p.table ≡ i
+  pub number : p.number ≡ e
+  pub entry : p.entry ≡ x
+  pub section : p.section ≡ h.sh_info
+  pub section_name : p.section_name.now ≡ unwrap_or (section_name bytes h.sh_info) []
+  pub symbol_name : p.symbol_name.now ≡ unwrap_or (symbol_name bytes (rela_symbol x)) []
 
 -- a place is that of a kept relocation, an entry of a RELA section, which has the header
 pub record IsEntryAt (objects : List LoadedObject) (p : RelocationPlace) (o : LoadedObject) (h : SectionHeader) : Type 0 where

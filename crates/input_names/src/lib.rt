@@ -4,15 +4,13 @@
 
 mod file_kinds;
 mod member_names;
+mod number_names;
 mod relocation_faults;
 mod relocation_places;
-mod relocation_types;
-mod section_kinds;
 mod text;
 
 pub use file_kinds::file_kind;
-pub use relocation_faults::{FaultOf, RelocationFault};
+pub use number_names::{SectionFlags, SectionType};
+pub use relocation_faults::{FaultOf, RelocationEntry, RelocationFault, RelocationSymbol};
 pub use relocation_places::{RelocationPlace, begins_in, relocation_place, section_name};
-pub use relocation_types::{RelocationEntry, RelocationSymbol};
-pub use section_kinds::{SectionFlags, SectionType};
-pub use text::{Called, Name, ObjectName, object_bytes};
+pub use text::{Called, Name, ObjectName};

@@ -1,9 +1,48 @@
-//! What is wrong with relocations, and how it reads.
+//! How relocations read: their entries, their symbols, and what is wrong with them.
 
+use crate::number_names::RelocationType;
 use crate::relocation_places::RelocationPlace;
-use crate::relocation_types::RelocationSymbol;
+use crate::text::{Called, Name};
 use std::fmt;
 use std::fmt::{Formatter, Write};
+
+/// A relocation, which reads as its number, that of its section, its type, the number of its symbol and, where this is wanted,
+/// the name of that.
+#[derive(Clone, Copy)]
+pub struct RelocationEntry<'p, 'a>(pub &'p RelocationPlace<'a>, pub bool);
+
+impl fmt::Display for RelocationEntry<'_, '_> {
+    fn fmt<W: Write>(&self, f: &mut Formatter<W>) -> fmt::Result {
+        let place = self.0;
+        let (table, number, symbol) = (place.table, place.number, place.entry.symbol());
+        let kind = RelocationType(place.entry.kind());
+        let name = Called(
+            "",
+            if self.1 {
+                Some(place.symbol_name)
+            } else {
+                None
+            },
+        );
+        write!(
+            f,
+            "relocation {number} of section {table}, {kind}, to symbol {symbol}{name}"
+        )
+    }
+}
+
+/// The symbol of a relocation, by its name, or by its number where it has none.
+#[derive(Clone, Copy)]
+pub struct RelocationSymbol<'p, 'a>(pub &'p RelocationPlace<'a>);
+
+impl fmt::Display for RelocationSymbol<'_, '_> {
+    fn fmt<W: Write>(&self, f: &mut Formatter<W>) -> fmt::Result {
+        if self.0.symbol_name.is_empty() {
+            return write!(f, "symbol {}", self.0.entry.symbol());
+        }
+        write!(f, "{}", Name(self.0.symbol_name))
+    }
+}
 
 /// Why a relocation isn't lawful.
 #[derive(Clone, Copy, Debug, PartialEq, Eq)]
@@ -29,19 +68,17 @@ pub struct FaultOf<'p, 'a>(pub RelocationFault, pub &'p RelocationPlace<'a>);
 impl fmt::Display for FaultOf<'_, '_> {
     fn fmt<W: Write>(&self, f: &mut Formatter<W>) -> fmt::Result {
         let text = match self.0 {
-            RelocationFault::Undefined => "is not defined",
-            RelocationFault::RefToDropped => "is LOCAL in a section that is not loaded",
-            RelocationFault::TlsMismatch =>
-                "is thread-local, or not, against the relocation's type",
-            RelocationFault::MixedSection =>
-                "is a bound of an output name of several output sections",
             RelocationFault::RelocKind => {
                 return f.write_str("not a type of relocation that is linked");
             }
             RelocationFault::FieldOutside => {
                 return f.write_str("the field is not inside its section");
             }
+            RelocationFault::Undefined => "not defined",
+            RelocationFault::RefToDropped => "LOCAL in a section that is not loaded",
+            RelocationFault::TlsMismatch => "thread-local, or not, against the relocation's type",
+            RelocationFault::MixedSection => "a bound of an output name of several output sections",
         };
-        write!(f, "{} {text}", RelocationSymbol(self.1))
+        write!(f, "{} is {text}", RelocationSymbol(self.1))
     }
 }

@@ -1,7 +1,7 @@
 //! Places of kept relocations, and whether the fields of two share a byte.
 ghost use Rattle.std.specs.Prelude.{◌≡◌, [], IsTrue, unwrap_or};
-ghost use Rattle.elf_model.specs.Inputs.ObjectFile.{rela_symbol, section_name, symbol_name};
-ghost use Rattle.input_names.specs.RelocationPlaces.{BeginsIn};
+ghost use Rattle.elf_model.specs.Inputs.ObjectFile.{section_name};
+ghost use Rattle.input_names.specs.RelocationPlaces.{BeginsIn, HasNumbers};
 
 use elf_model::{Rela, SectionHeader};
 use elf_read::ObjectFile;
@@ -38,15 +38,7 @@ pub fn relocation_place<'a>(
     e: usize,
     entry: &Rela,
 ) -> RelocationPlace<'a>
-    ensures object { result.object ≡ number }
-    ensures table { result.table ≡ i }
-    ensures number { result.number ≡ e }
-    ensures entry { result.entry ≡ entry.now }
-    ensures section { result.section ≡ header.now.sh_info }
-    ensures section_name { result.section_name.now
-        ≡ unwrap_or (section_name object.now header.now.sh_info) [] }
-    ensures symbol_name { result.symbol_name.now
-        ≡ unwrap_or (symbol_name object.now (rela_symbol entry.now)) [] }
+    ensures { HasNumbers result object.now header.now number i e entry.now }
 {
     RelocationPlace {
         object: number as u64,

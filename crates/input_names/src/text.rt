@@ -1,6 +1,6 @@
 //! Names as they are printed, and objects by the path of their file and the name of their member.
 
-use crate::member_names::{member_data, member_name};
+use crate::member_names::member_name;
 use elf_model::InputFile;
 use std::fmt;
 
@@ -22,16 +22,16 @@ impl fmt::Display for Name<'_> {
     }
 }
 
-/// A space and a name; nothing where the name is empty.
+/// A space, what a name is of, and the name; nothing where there is none, or it is empty.
 #[derive(Clone, Copy)]
-pub struct Called<'a>(pub &'a [u8]);
+pub struct Called<'w, 'a>(pub &'w str, pub Option<&'a [u8]>);
 
-impl fmt::Display for Called<'_> {
+impl fmt::Display for Called<'_, '_> {
     fn fmt<W: fmt::Write>(&self, f: &mut fmt::Formatter<W>) -> fmt::Result {
-        if self.0.is_empty() {
-            return Ok(());
+        match self.1 {
+            Some(name) if !name.is_empty() => write!(f, " {}{}", self.0, Name(name)),
+            _ => Ok(()),
         }
-        write!(f, " {}", Name(self.0))
     }
 }
 
@@ -41,17 +41,8 @@ fn file_named<'f>(files: &'f [InputFile], path: &str) -> Option<&'f [u8]> {
     Some(file.bytes.as_slice())
 }
 
-/// The bytes of an object by the path of its file and the offset of its member's header; 0 for a file that is an object.
-pub fn object_bytes<'f>(files: &'f [InputFile], path: &str, offset: u64) -> Option<&'f [u8]> {
-    let file = file_named(files, path)?;
-    if offset == 0 {
-        return Some(file);
-    }
-    member_data(file, offset as usize)
-}
-
-/// An object, which reads as the path of its file and the member that it is, by the offset of the member's header; 0 for a
-/// file that is an object.
+/// An object of files, which reads as the path of its file and the member that it is, by the offset of the member's header; 0
+/// for a file that is an object.
 #[derive(Clone, Copy)]
 pub struct ObjectName<'i> {
     files: &'i [InputFile],

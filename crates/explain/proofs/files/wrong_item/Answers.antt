@@ -1,12 +1,26 @@
-use Rattle.std.proofs.Common.{arith, ◌∙◌, List, ℕ, Some, Option, ap, option_map, sym}
+use Rattle.std.proofs.Common.{arith, ◌≡◌, ◌∙◌, ◌+◌, List, [], ◌∷◌, ℕ, zero, suc, Some, Option, ap, option_map, sym}
 use Rattle.std.specs.Borrow.{Bor}
+use Rattle.std.specs.List.{slice_get}
+use Rattle.std.proofs.lemmas.Option.{none-some, same_Some}
 use Rattle.command.specs.Views.{item_of, texts_of}
-use Rattle.elf_model.specs.Inputs.Command.{Plan}
-use Rattle.elf_model.specs.Inputs.Opening.{Opened, opened_item}
+use Rattle.elf_model.specs.Inputs.Command.{Item, Plan}
+use Rattle.elf_model.specs.Inputs.Files.{File}
+use Rattle.elf_model.specs.Inputs.Opening.{Opened, opened_from, opened_item}
 use Rattle.opening.specs.Opened.{found_view}
 use Rattle.opening.proofs.OpenedLaws.{opened_is}
-use Rattle.explain.proofs.Told.{opened_at}
 use Rattle.explain.proofs.files.wrong_item.Goals as goal
+
+-- an item of a plan, opened by itself, is that of the opened plan
+opened_at :
+    (files : List File) (directories : List (List ℕ)) (k i n : ℕ) (items : List Item) (item : Item) → slice_get items i ≡ Some item → n ≡ k + i →
+    slice_get (opened_from files directories k items) i ≡ Some (opened_item files directories n item)
+opened_at files directories k i n [] item there is = absurd (none-some item there)
+opened_at files directories k zero n (x ∷ xs) item there is =
+    let same : x ≡ item = same_Some x item there in
+    let number : k ≡ n = omega (arith, is) in
+    ap (λ (m : ℕ). Some (opened_item files directories m x)) number ∙ ap (λ (y : Item). Some (opened_item files directories n y)) same
+opened_at files directories k (suc i) n (x ∷ xs) item there is =
+    opened_at files directories (k + 1) i n xs item there (omega (arith, is))
 
 pub returns : goal.returns
 returns c =

@@ -1,6 +1,24 @@
-use Rattle.std.proofs.Common.{rules}
-use Rattle.explain.specs.Places.{OfLoaded}
+use Rattle.std.proofs.Common.{◌≡◌, ◌∙◌, ap, rules, subst, sym}
+use Rattle.elf_model.specs.Link.Pieces.{AreLawfulKinds}
+use Rattle.elf_model.specs.Link.Slots.{slots}
+use Rattle.layout.specs.Placements.{Basis}
+use Rattle.explain.specs.Places.{OfLoaded, basis_of}
 use Rattle.explain.proofs.link.add_unlinked.Goals as goal
+
+pub pointer_of-pointer-requires : goal.pointer_of-pointer-requires
+pointer_of-pointer-requires c = subst (λ (b : Basis). AreLawfulKinds b.objects) (sym c.in-Ok-place.ensures.exact) c.requires.kinds
+
+pub add_wanted-requires-in-Ok-place-clause-asked : goal.add_wanted-requires-in-Ok-place-clause-asked
+add_wanted-requires-in-Ok-place-clause-asked c =
+    let placed : c.in-Ok-place.placement ≡ basis_of c.args.loaded.now = search rules in
+    record {
+      resolved = c.requires.resolved;
+      placed = placed;
+      kinds = subst (λ (b : Basis). AreLawfulKinds b.objects) (sym placed) c.requires.kinds;
+      slots_are = c.in_ok-slots.ensures.slots ∙ ap (λ (b : Basis). slots b.objects) (sym placed);
+      slots_of = c.in_ok-slots.ensures.objects;
+      pointer_is = c.pointer_of-pointer.ensures;
+    }
 
 pub returns-then-is_none : goal.returns-then-is_none
 returns-then-is_none c = c.add.ensures (OfLoaded c.args.loaded.now) c.requires.before (search rules)

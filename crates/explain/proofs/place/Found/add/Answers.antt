@@ -2,7 +2,7 @@ use Rattle.std.proofs.Common.{All, Option, IfSome, subst, sym}
 use Rattle.std.proofs.lemmas.List.Elements.{All-push}
 use Rattle.explain.specs.Places.{IsSo}
 use Rattle.explain.specs.declared.place.Place.{Place}
-use Rattle.explain.proofs.found.Found.add.Goals as goal
+use Rattle.explain.proofs.place.Found.add.Goals as goal
 
 pub returns : goal.returns
 returns c = λ g so is.
