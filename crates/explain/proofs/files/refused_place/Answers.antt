@@ -1,5 +1,4 @@
-use Rattle.std.proofs.Common.{Some, subst}
-use Rattle.search.specs.Faults.{IsRefusedIn}
+use Rattle.std.proofs.Common.{subst}
 use Rattle.search.specs.declared.faults.SearchFault.{SearchFault}
 use Rattle.explain.specs.Places.{IsStoppedAt}
 use Rattle.explain.proofs.files.refused_place.Goals as goal

@@ -1,4 +1,4 @@
-use Rattle.std.proofs.Common.{inl, List, All, subst, sym, rules, ℕ}
+use Rattle.std.proofs.Common.{inl, All, subst, sym, rules}
 use Rattle.std.proofs.lemmas.List.Elements.{All-push}
 use Rattle.explain.specs.Places.{Holds}
 use Rattle.explain.specs.declared.place.Place.TheVariants as place
