@@ -1,17 +1,19 @@
 //! C13: whether the symbols are sound, no name has two strong definitions, and the symbol lines are those that the names
 //! ask for.
-ghost use Rattle.std.specs.Prelude.{◌≡◌, ◌+◌, ◌↔◌, ◌≤◌, ℕ, List, All, IfOk, IfSome, IsSome, IsTrue, [], ◌∷◌, false, filter, length, map, option_map, Some, true};
+ghost use Rattle.std.specs.Prelude.{◌≡◌, ◌+◌, ◌↔◌, ◌≤◌, ℕ, List, All, IfOk, IfSome, IsSome, IsTrue, [], ◌∷◌, false, filter, find, length, map, option_copied, option_map, Some, true};
+ghost use Rattle.std.specs.Str.{bytes_eq};
 ghost use Rattle.std.specs.Cow.{cow_slice_items};
 ghost use Rattle.std.specs.List.{slice_get};
 ghost use Rattle.elf_model.specs.Link.ChosenSymbols.{is_chosen};
-ghost use Rattle.elf_model.specs.Link.Listing.{linker_line};
+ghost use Rattle.elf_model.specs.Link.Listing.{linker_line, listed};
 ghost use Rattle.linkmap.specs.Borrowed.{symbol_row};
+ghost use Rattle.linkmap.specs.Lines.{line_view};
 ghost use Rattle.elf_model.specs.Link.Meaning.{Symbol, meaning_name, meanings_of, meant_list, object_meaning};
 ghost use Rattle.elf_model.specs.declared.link_map.Definition.TheVariants as definition;
 ghost use Rattle.elf_model.specs.Image.MapText.{Ascends, SymbolBefore};
 ghost use Rattle.elf_model.specs.Link.Resolution.{AreSoundSymbols, AreUnique};
-ghost use Rattle.elf_model.specs.Image.RightLink.{HasLine, Holds, definition_row, objects_of, symbol_row_of};
-ghost use Rattle.check_tables.specs.Listed.{IsChosenIfStrong, IsLine};
+ghost use Rattle.elf_model.specs.Image.RightLink.{HasLine, Holds, definition_row, objects_of, symbol_row_of, where_of};
+ghost use Rattle.check_tables.specs.Listed.{IsChosenIfStrong, IsLine, meaning_line};
 ghost use Rattle.check_link.specs.Chosen.{AreOtherChoices, AreOwnChoices};
 ghost use Rattle.check_link.specs.Views.{meaning_view, symbol_view};
 ghost use Rattle.check_relocs.specs.LinkerUses.{AreUsed};
@@ -22,7 +24,7 @@ use check_link::{Definitions, Meaning, SymbolOf};
 use check_relocs::{Bindings, linker_lines, used_names};
 use check_stages::BoundLink;
 use elf_model::{Definition, STB_WEAK};
-use linkmap::BorrowedSymbol;
+use linkmap::{BorrowedSymbol, Line};
 use std::alloc::{AllocError, Global};
 use std::collections::BTreeSet;
 
@@ -177,6 +179,57 @@ fn name_of<'a>(meaning: &Meaning<'a>) -> &'a [u8]
     }
 }
 
+/// What a name means that has a line, given the linker's names that have one.
+pub fn listed_meaning<'a>(
+    bindings: &Bindings<'_, '_, 'a>,
+    names: &BTreeSet<&'a [u8]>,
+    name: &'a [u8],
+) -> Option<Meaning<'a>>
+    requires { AreUsed bindings.now.objects names.now }
+    ensures { option_map meaning_view result ≡ listed bindings.now.objects name.entry.now }
+{
+    match bindings.object_meaning(name) {
+        Some(meaning) => Some(meaning),
+        None if names.contains(name) => bindings.linker_meaning(name),
+        None => None,
+    }
+}
+
+/// Who defines a name, as its line says.
+fn definition_of(meaning: &Meaning<'_>) -> Definition
+    ensures { result ≡ definition_row (meaning_view meaning.now) }
+{
+    match meaning {
+        Meaning::Common(_) => Definition::Common,
+        Meaning::Linker(_, _) => Definition::Linker,
+        Meaning::Symbol(definition) => {
+            let (object, symbol) = (definition.object, definition.number);
+            match definition.entry.binding() {
+                STB_WEAK => Definition::Weak { object, symbol },
+                _ => Definition::Strong { object, symbol },
+            }
+        }
+    }
+}
+
+/// The line that says what a name means, with its value modulo 2^64, if it means something.
+pub fn line_of<'a>(
+    bindings: &Bindings<'_, '_, '_>,
+    meaning: &Option<Meaning<'a>>,
+) -> Option<Line<'a>>
+    ensures { option_map line_view result
+        ≡ option_map (meaning_line bindings.now.places) (option_map meaning_view meaning.now) }
+{
+    match meaning {
+        Some(meaning) => Some(Line::Symbol {
+            address: bindings.value_of(meaning),
+            definition: definition_of(meaning),
+            name: name_of(meaning),
+        }),
+        None => None,
+    }
+}
+
 /// Whether a line names a symbol as a definition of its binding.
 fn names_symbol(definition: Definition, symbol: &SymbolOf<'_>) -> bool
     ensures { IsTrue result ↔ (definition ≡ definition_row (Symbol (symbol_view symbol.now))) }
@@ -242,6 +295,41 @@ fn is_line_of(
         return false;
     }
     bindings.is_value(meaning, line.address)
+}
+
+/// The first line of a name.
+fn line_named<'m>(lines: &'m [BorrowedSymbol<'m>], name: &[u8]) -> Option<&'m BorrowedSymbol<'m>>
+    ensures { option_copied result
+        ≡ find (λ line. bytes_eq (symbol_row line).name name.now) lines.entry.now }
+{
+    lines.iter().find(|line| line.name.as_slice() == name)
+}
+
+/// Whether a line, if there is one, is that of a definition, if there is one.
+fn is_line_of_some(
+    bindings: &Bindings<'_, '_, '_>,
+    line: Option<&BorrowedSymbol<'_>>,
+    meaning: &Option<Meaning<'_>>,
+) -> bool
+    ensures { IsTrue result ↔ (option_map symbol_row (option_copied line.entry)
+        ≡ option_map (symbol_row_of bindings.now.places) (option_map meaning_view meaning.now)) }
+{
+    match (line, meaning) {
+        (None, None) => true,
+        (Some(line), Some(meaning)) => is_line_of(bindings, meaning, line),
+        (_, _) => false,
+    }
+}
+
+/// Whether the lines of a link have the one that a name asks for, given what it means that has a line.
+pub fn has_line(bound: &BoundLink<'_, '_>, name: &[u8], meaning: &Option<Meaning<'_>>) -> bool
+    requires { option_map meaning_view meaning.now ≡ listed (objects_of bound.now) name.now }
+    ensures { IsTrue result ↔ HasLine
+        bound.now.map.symbols (objects_of bound.now) (where_of bound.now) name.now }
+{
+    let link = bound.link();
+    let line = line_named(&link.map.symbols, name);
+    is_line_of_some(bound.bindings(), line, meaning)
 }
 
 /// Whether a line is that of a name that no object defines, and that is one of the linker's with a line.

@@ -24,6 +24,7 @@ pub mod entries;
 pub mod lines;
 pub mod places;
 pub mod strip;
+pub mod wanted;
 
 /// Whether the fourteenth clause holds of a link.
 pub fn holds<'a>(bound: &BoundLink<'_, 'a>, choices: &OwnChoices<'_, 'a>) -> bool

@@ -183,7 +183,7 @@ any_at {X} p (x ∷ xs) (suc i) d low e = by (p x) (any_at p xs i d (omega (arit
     by false rest = rest
 
 -- a slot that is the only one for its request stands at the first position
-only_first :
+pub only_first :
     (q : Request) (rows : List SlotRow) (k i : ℕ) (d : SlotRow) → count q rows ≤ 1 → i < length rows → is_slot_of q (get_or rows i d) ≡ true →
     position_from (is_slot_of q) k rows ≡ Some (k + i)
 unfolding count

@@ -1,5 +1,6 @@
 //! C8: whether PT_TLS says where the thread-local pieces are, and whether a loader finds their initial bytes there.
 ghost use Rattle.std.specs.Prelude.{◌≡◌, ◌↔◌, [], ◌∷◌, All, IsTrue};
+ghost use Rattle.std.specs.List.{slice_get};
 ghost use Rattle.elf_model.specs.Image.MemoryImage.{loads};
 ghost use Rattle.elf_model.specs.Link.Placement.{got_things};
 ghost use Rattle.elf_model.specs.Image.RightLink.{Holds, HoldsBefore, HoldsInitial, IsClearOf};
@@ -28,7 +29,7 @@ pub fn holds(bound: &BoundLink<'_, '_>) -> bool
 }
 
 /// The PT_TLS header of the block of placed pieces, in an image that begins at the base.
-pub fn header_of(base: u64, placed: &[Placed<'_>], block: &TlsBlock) -> ProgramHeader
+fn header_of(base: u64, placed: &[Placed<'_>], block: &TlsBlock) -> ProgramHeader
     requires { AreInLimit (placed_views placed.now) }
     ensures { result ≡ thread_header base (placed_views placed.now) block.now }
 {
@@ -42,6 +43,17 @@ pub fn header_of(base: u64, placed: &[Placed<'_>], block: &TlsBlock) -> ProgramH
         p_filesz: data_end.saturating_sub(block.start),
         p_memsz: block.size,
         p_align: block.align,
+    }
+}
+
+/// The PT_TLS header that placed pieces ask for, in an image that begins at the base; None without thread-local ones.
+pub fn wanted_header(base: u64, placed: &[Placed<'_>]) -> Option<ProgramHeader>
+    requires { AreInLimit (placed_views placed.now) }
+    ensures { result ≡ slice_get (thread_headers base (placed_views placed.now)) 0 }
+{
+    match thread_block(placed) {
+        Some(block) => Some(header_of(base, placed, &block)),
+        None => None,
     }
 }
 
@@ -73,7 +85,7 @@ pub fn are_headers_right(headers: &[ProgramHeader], base: u64, placed: &[Placed<
 }
 
 /// Whether a piece begins at or after an address if it is thread-local and has no bytes.
-fn begins_after(end: u64, placed: &Placed<'_>) -> bool
+pub fn begins_after(end: u64, placed: &Placed<'_>) -> bool
     ensures { IsTrue result ↔ BeginsAfter end (placed_view placed.now) }
 {
     !is_thread_zero(&placed.piece) || end <= placed.at
@@ -87,7 +99,7 @@ fn begin_after(end: u64, placed: &[Placed<'_>]) -> bool
 }
 
 /// Whether a thing has no address from `start` on and below `end`.
-pub fn is_clear_of(start: u64, end: u64, thing: &Thing) -> bool
+fn is_clear_of(start: u64, end: u64, thing: &Thing) -> bool
     requires { EndFits thing.now }
     ensures { IsTrue result ↔ IsClearOf start end thing.now }
 {
@@ -95,7 +107,7 @@ pub fn is_clear_of(start: u64, end: u64, thing: &Thing) -> bool
 }
 
 /// Whether the GOT, if there is one, has no address from `start` on and below `end`.
-fn is_got_clear_of(start: u64, end: u64, got: &Option<GotLine>) -> bool
+pub fn is_got_clear_of(start: u64, end: u64, got: &Option<GotLine>) -> bool
     requires { IsGotInLimit got.now }
     ensures { IsTrue result ↔ All (IsClearOf start end) (got_things got.now) }
 {
@@ -106,7 +118,7 @@ fn is_got_clear_of(start: u64, end: u64, got: &Option<GotLine>) -> bool
 }
 
 /// Whether a piece that isn't thread-local has no address from `start` on and below `end`.
-fn is_place_clear_of(start: u64, end: u64, placed: &Placed<'_>) -> bool
+pub fn is_place_clear_of(start: u64, end: u64, placed: &Placed<'_>) -> bool
     requires { IsInLimit (placed_view placed.now) }
     ensures { IsTrue result ↔ IsPlaceClear start end (placed_view placed.now) }
 {

@@ -1,9 +1,2 @@
-pub mod BytePlaces
-pub mod FillPlaces
-pub mod GotPlaces
-pub mod LinePlaces
-pub mod NumberPlaces
-pub mod PlacementPlaces
+pub mod Facts
 pub mod Places
-pub mod RelocationPlaces
-pub mod TablePlaces

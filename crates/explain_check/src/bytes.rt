@@ -1,21 +1,113 @@
-//! C10: the first wrong byte of each piece.
-ghost use Rattle.std.specs.Prelude.{◌≡◌, ◌↔◌, ◌+◌, ◌≤◌, ◌-◌, IfSome, IsTrue, OnOk, Some, find, option_copied, option_map, slice_index};
+//! Numbers and bytes that aren't the wanted ones. C10: the first wrong byte of each piece.
+ghost use Rattle.std.specs.Prelude.{◌≡◌, ◌+◌, ◌-◌, IfSome, OnOk, Some, find, option_copied, option_map, slice_index};
 ghost use Rattle.std.specs.List.{slice_get};
 ghost use Rattle.byteview.specs.Numbers.{le_bytes};
 ghost use Rattle.elf_model.specs.Image.RightLink.{objects_of, placed_of, where_of};
 ghost use Rattle.check_link.specs.Views.{placed_view};
 ghost use Rattle.check_relocs.specs.Bytes as bytes;
 ghost use Rattle.check_relocs.specs.Fields.{AreRows};
-ghost use Rattle.explain_check.specs.BytePlaces.{IsWanted, address_of};
+ghost use Rattle.explain_check.specs.Facts.{IsWanted, byte_there, number_there, number_wanted};
 ghost use Rattle.explain_check.specs.Places.{AreFailures, FailsIn};
-ghost use Rattle.explain_check.specs.RelocationPlaces.{IsFieldOver};
 
 use crate::found::{Added, Found};
-use crate::place::{ByteOf, BytePlace, CheckPlace, Failure};
-use crate::relocation_places::field_place;
+use crate::place::{ByteOf, BytePlace, CheckPlace, Failure, NumberName};
+use crate::relocations::field_place;
 use check_link::{Placed, load_size};
 use check_relocs::{Field, fields_in};
+use check_stages::file_end;
 use checker::BoundLink;
+
+/// A number as the map or the image has it.
+fn number_there(bound: &BoundLink<'_, '_>, name: NumberName) -> Option<u64>
+    ensures { IfSome result (λ n. number_there bound.now name ≡ Some n) }
+{
+    let (map, memory) = (&bound.link().map, bound.memory());
+    let number = match name {
+        NumberName::GotSize => map.got?.size,
+        NumberName::SlotAddress(k) => bound.slots().lines().get(k as usize)?.address,
+        NumberName::Length => memory.image().len() as u64,
+        NumberName::TableOffset => map.symtab?.offset,
+        NumberName::TableCount => map.symtab?.count,
+        NumberName::HeadersOffset => memory.header().e_shoff,
+        NumberName::HeadersCount => memory.header().e_shnum as u64,
+        NumberName::NamesSection => memory.header().e_shstrndx as u64,
+    };
+    Some(number)
+}
+
+/// A number as it should be, but for where a symbol table is and how many entries it has.
+fn wanted_number(bound: &BoundLink<'_, '_>, name: NumberName) -> Option<u64>
+    ensures { IfSome result (λ n. number_wanted bound.now name ≡ Some n) }
+{
+    let map = &bound.link().map;
+    match (name, map.symtab) {
+        (NumberName::GotSize, _) => {
+            let slots = (bound.slots().lines().len() as u64).checked_mul(8)?;
+            slots.checked_add(8)
+        }
+        (NumberName::SlotAddress(k), _) => {
+            let behind = k.checked_mul(8)?.checked_add(8)?;
+            map.got?.address.checked_add(behind)
+        }
+        (NumberName::Length, None) => Some(file_end(bound.memory())),
+        (NumberName::HeadersCount, Some(_)) => Some(4),
+        (NumberName::NamesSection, Some(_)) => Some(3),
+        (NumberName::HeadersOffset, None) => Some(0),
+        (NumberName::HeadersCount, None) => Some(0),
+        (NumberName::NamesSection, None) => Some(0),
+        _ => None,
+    }
+}
+
+/// A number that isn't as it should be, where that is told without a symbol table.
+pub fn wrong_number<'a>(bound: &BoundLink<'_, 'a>, name: NumberName) -> Failure<'a>
+    ensures { IfSome result (FailsIn bound.now) }
+{
+    other_number(bound, name, wanted_number(bound, name)?)
+}
+
+/// A number that isn't the wanted one.
+pub fn other_number<'a>(bound: &BoundLink<'_, 'a>, name: NumberName, wanted: u64) -> Failure<'a>
+    requires { number_wanted bound.now name ≡ Some wanted }
+    ensures { IfSome result (FailsIn bound.now) }
+{
+    let number = number_there(bound, name)?;
+    if number == wanted {
+        return None;
+    }
+    Some(CheckPlace::Number(name, number, wanted))
+}
+
+/// A byte, where there is another one than the wanted one or none, or where there should be none.
+pub fn wrong_byte<'a>(
+    bound: &BoundLink<'_, 'a>,
+    of: ByteOf<'a>,
+    offset: u64,
+    there: Option<u8>,
+    wanted: Option<u8>,
+) -> Failure<'a>
+    requires there { there ≡ byte_there bound.now of offset }
+    requires wanted { IsWanted bound.now of offset wanted }
+    ensures { IfSome result (FailsIn bound.now) }
+{
+    let _bound = bound;
+    if there == wanted {
+        return None;
+    }
+    let place = BytePlace {
+        offset,
+        there,
+        wanted,
+    };
+    Some(CheckPlace::Byte(of, place))
+}
+
+/// The element that has a number.
+pub fn at<T: Copy>(xs: &[T], k: usize) -> Option<T>
+    ensures { result ≡ slice_get xs.now k }
+{
+    xs.get(k).copied()
+}
 
 /// The sum of two numbers; None where it has more than 64 bits.
 pub fn sum(a: u64, b: u64) -> Option<u64>
@@ -97,37 +189,13 @@ pub fn piece_at<'a>(bound: &BoundLink<'_, 'a>, number: usize) -> Option<Placed<'
     bound.placed().get(number).copied()
 }
 
-/// A byte at an address, where memory has another one than the wanted one or none.
-pub fn wrong_byte<'a>(
-    bound: &BoundLink<'_, 'a>,
-    of: ByteOf<'a>,
-    offset: u64,
-    address: u64,
-    wanted: u8,
-) -> Failure<'a>
-    requires address { address ≡ address_of of offset }
-    requires wanted { IsWanted bound.now of offset wanted }
-    ensures { IfSome result (FailsIn bound.now) }
-{
-    let there = bound.memory().byte(address);
-    if there == Some(wanted) {
-        return None;
-    }
-    Some(CheckPlace::Byte(BytePlace {
-        of,
-        offset,
-        there,
-        wanted,
-    }))
-}
-
 /// The first wrong byte of the piece that has a number. The relocation in whose field it lies is left out where the place is
 /// only counted.
 fn wrong_piece<'a>(
     bound: &BoundLink<'_, 'a>,
     rows: &[Vec<Field>],
     number: usize,
-    counted: bool,
+    told: bool,
 ) -> Failure<'a>
     requires { AreRows (objects_of bound.now) (where_of bound.now) rows.now }
     ensures { IfSome result (FailsIn bound.now) }
@@ -141,11 +209,11 @@ fn wrong_piece<'a>(
     if k >= size {
         return None;
     }
-    let address = sum(placed.at, k)?;
+    let there = bound.memory().byte(sum(placed.at, k)?);
     let wanted = wanted_with(piece.bytes, fields, k)?;
-    let relocation = field_place(bound, piece.object, piece.section, k, counted);
+    let relocation = field_place(bound, piece.object, piece.section, k, told);
     let of = ByteOf::Piece(number as u64, placed, relocation);
-    wrong_byte(bound, of, k, address, wanted)
+    wrong_byte(bound, of, k, there, Some(wanted))
 }
 
 /// Adds the first wrong byte of each piece: where the tenth clause fails, given the fields of the link's relocations by
@@ -156,7 +224,7 @@ pub fn add_c10<'a>(found: &mut Found<'a>, bound: &BoundLink<'_, 'a>, rows: &[Vec
     ensures { OnOk result (AreFailures bound.now found.new.places.items) }
 {
     for number in 0..bound.placed().len() {
-        let place = wrong_piece(bound, rows, number, found.is_full());
+        let place = wrong_piece(bound, rows, number, !found.is_full());
         found.add_some(place)?;
     }
     Ok(())

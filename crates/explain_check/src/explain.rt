@@ -10,10 +10,9 @@ use crate::bytes::add_c10;
 use crate::fill::add_c11;
 use crate::found::{Added, Found};
 use crate::got::add_c7;
-use crate::lines::{add_c2, add_c3};
+use crate::lines::{add_c2, add_c3, add_c12, add_c13};
 use crate::placement::{add_c5, add_c6};
 use crate::relocations::add_c9;
-use crate::symbol_lines::{add_c12, add_c13};
 use crate::tables::add_c14;
 use crate::thread_block::add_c8;
 use check_link::{Link, read_map, read_plan};
@@ -23,48 +22,41 @@ use checker::{BoundLink, LoadedLink, Observer, PlacedLink, judge};
 use elf_model::{Clause, InputFile, Verdict};
 use std::alloc::{AllocError, Global};
 
-/// What is seen of a check: the places that were found.
-#[derive(Drop)]
-struct Seen<'a> {
-    alloc: Global,
-    found: Found<'a>,
-}
-
-impl<'a> Observer<'a> for Seen<'a> {
+impl<'a> Observer<'a> for Found<'a> {
     ghost use Rattle.explain_check.specs.Places.{AreFailures};
 
-    ghost Saw = { λ s seen. AreFailures s seen.found.places.items };
+    ghost Saw = { λ s found. AreFailures s found.places.items };
 
     fn see_objects(&mut self, link: &'a Link<'a>, objects: &[Loaded<'a>]) -> Added {
-        add_c2(&mut self.found, link, objects)
+        add_c2(self, link, objects)
     }
 
     fn see_loaded(&mut self, loaded: &LoadedLink<'_, 'a>) -> Added {
-        add_c3(self.alloc, &mut self.found, loaded)
+        add_c3(self, loaded)
     }
 
     fn see_placed(&mut self, clause: Clause, placed: &PlacedLink<'_, 'a>) -> Added {
         match clause {
-            Clause::C5 => add_c5(self.alloc, &mut self.found, placed),
-            _ => add_c6(&mut self.found, placed),
+            Clause::C5 => add_c5(self, placed),
+            _ => add_c6(self, placed),
         }
     }
 
     fn see_bound(&mut self, clause: Clause, bound: &BoundLink<'_, 'a>) -> Added {
         match clause {
-            Clause::C7 => add_c7(self.alloc, &mut self.found, bound),
-            Clause::C8 => add_c8(&mut self.found, bound),
-            Clause::C9 => add_c9(self.alloc, &mut self.found, bound),
-            Clause::C11 => add_c11(self.alloc, &mut self.found, bound),
-            Clause::C12 => add_c12(&mut self.found, bound),
-            Clause::C13 => add_c13(self.alloc, &mut self.found, bound),
-            Clause::C14 => add_c14(self.alloc, &mut self.found, bound),
+            Clause::C7 => add_c7(self, bound),
+            Clause::C8 => add_c8(self, bound),
+            Clause::C9 => add_c9(self, bound),
+            Clause::C11 => add_c11(self, bound),
+            Clause::C12 => add_c12(self, bound),
+            Clause::C13 => add_c13(self, bound),
+            Clause::C14 => add_c14(self, bound),
             _ => Ok(()),
         }
     }
 
     fn see_fields(&mut self, bound: &BoundLink<'_, 'a>, rows: &[Vec<Field>]) -> Added {
-        add_c10(&mut self.found, bound, rows)
+        add_c10(self, bound, rows)
     }
 }
 
@@ -122,10 +114,9 @@ pub fn explain_check<'a>(
         → IfOk result (λ f.
         All (FailsAt link.entry.now.files words link.entry.now.image bytes) f.places.items) }
 {
-    let found = Found::new(alloc, most);
-    let mut seen = Seen { alloc, found };
-    match judge(alloc, link, None, &mut seen)? {
+    let mut found = Found::new(alloc, most);
+    match judge(alloc, link, None, &mut found)? {
         Verdict::Yes => Ok(Found::new(alloc, most)),
-        Verdict::No(clause) => seen.found.of_clause(clause, most),
+        Verdict::No(clause) => found.of_clause(clause, most),
     }
 }

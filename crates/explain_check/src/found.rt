@@ -1,39 +1,12 @@
 //! The places that were found so far: the first of them, and how many more there are.
 ghost use Rattle.std.specs.Prelude.{◌≡◌, ◌<◌, ◌≤◌, [], All, IfOk, IfSome, IsTrue, OnErr, OnOk, length};
-ghost use Rattle.elf_model.specs.Image.MapText.{IsMap};
 ghost use Rattle.elf_model.specs.Image.RightLink.{Holds, Subject};
 ghost use Rattle.elf_model.specs.declared.verdict.Clause as verdict;
-ghost use Rattle.explain_check.specs.Places.{AreFailures, FailsIn, IsOf, clause_of, clause_of_byte, clause_of_number};
+ghost use Rattle.explain_check.specs.Places.{AreFailures, FailsIn, IsOf, clause_of};
 
-use crate::place::{ByteOf, CheckPlace, Failure, LineKey, NumberName};
+use crate::place::{ByteOf, CheckPlace, LineKey, NumberName};
 use elf_model::Clause;
 use std::alloc::{AllocError, Global};
-
-/// The clause that determines a number.
-fn clause_of_number(name: NumberName) -> Clause
-    ensures { result ≡ clause_of_number name }
-{
-    match name {
-        NumberName::GotSize | NumberName::SlotAddress(_) => Clause::C7,
-        NumberName::Length => Clause::C11,
-        NumberName::TableOffset
-        | NumberName::TableCount
-        | NumberName::HeadersOffset
-        | NumberName::HeadersCount
-        | NumberName::NamesSection => Clause::C14,
-    }
-}
-
-/// The clause that says which byte is wanted.
-fn clause_of_byte(of: &ByteOf<'_>) -> Clause
-    ensures { result ≡ clause_of_byte of.now }
-{
-    match of {
-        ByteOf::Got(_) => Clause::C7,
-        ByteOf::Piece(_, _, _) => Clause::C10,
-        ByteOf::Fill(_) => Clause::C11,
-    }
-}
 
 /// The clause of the kind of a place.
 pub fn kind_of(place: &CheckPlace<'_>) -> Clause
@@ -48,17 +21,24 @@ pub fn kind_of(place: &CheckPlace<'_>) -> Clause
         | CheckPlace::Shared(_, _)
         | CheckPlace::Far(_, _) => Clause::C5,
         CheckPlace::Unheld(_, _) | CheckPlace::First(_) => Clause::C6,
-        CheckPlace::Got(_) | CheckPlace::SlotLine(_, _, _) | CheckPlace::NoSlot(_, _) => Clause::C7,
+        CheckPlace::Got(_)
+        | CheckPlace::SlotLine(_, _, _)
+        | CheckPlace::NoSlot(_, _)
+        | CheckPlace::Number(NumberName::GotSize | NumberName::SlotAddress(_), _, _)
+        | CheckPlace::Byte(ByteOf::Got(_), _) => Clause::C7,
         CheckPlace::ThreadHeader(_, _)
         | CheckPlace::InThreadBlock(_, _, _, _)
         | CheckPlace::ThreadBytes(_) => Clause::C8,
         CheckPlace::Relocation(_, _) | CheckPlace::Overlap(_, _) | CheckPlace::Value(_, _, _) =>
             Clause::C9,
-        CheckPlace::SegmentEnd(_, _, _) | CheckPlace::Gap(_, _) => Clause::C11,
-        CheckPlace::Number(name, _, _) => clause_of_number(*name),
-        CheckPlace::Byte(place) => clause_of_byte(&place.of),
+        CheckPlace::Byte(ByteOf::Piece(_, _, _), _) => Clause::C10,
+        CheckPlace::SegmentEnd(_, _, _, _)
+        | CheckPlace::Number(NumberName::Length, _, _)
+        | CheckPlace::Byte(ByteOf::Fill(_) | ByteOf::Gap, _) => Clause::C11,
         CheckPlace::Entry(_, _) => Clause::C12,
-        CheckPlace::Symtab(_) | CheckPlace::TableByte(_) => Clause::C14,
+        CheckPlace::Symtab(_)
+        | CheckPlace::Number(_, _, _)
+        | CheckPlace::Byte(ByteOf::Tail(_, _), _) => Clause::C14,
         CheckPlace::Whole(clause) => *clause,
     }
 }
@@ -66,7 +46,7 @@ pub fn kind_of(place: &CheckPlace<'_>) -> Clause
 /// The clause that fails at a place: what the place says of a link denies it.
 pub fn clause_of(place: &CheckPlace<'_>) -> Clause
     ensures clause { result ≡ clause_of place.now }
-    ensures fails { (s : Subject) → IsMap s.map → FailsIn s place.now → ¬ Holds result s }
+    ensures fails { (s : Subject) → FailsIn s place.now → ¬ Holds result s }
 {
     kind_of(place)
 }
@@ -84,6 +64,7 @@ fn are_of(places: &[CheckPlace<'_>], clause: Clause) -> bool
 /// The first places that were found, and how many more.
 #[derive(Drop)]
 pub struct Found<'a> {
+    pub(crate) alloc: Global,
     places: Vec<CheckPlace<'a>>,
     more: u64,
     most: usize,
@@ -96,10 +77,23 @@ impl<'a> Found<'a> {
         ensures most { result.most ≡ most }
     {
         Found {
+            alloc,
             places: Vec::new(alloc),
             more: 0,
             most,
         }
+    }
+
+    /// Whether as many places are kept as may be.
+    pub fn is_full(&self) -> bool {
+        self.places.len() >= self.most
+    }
+
+    /// Counts a place that isn't kept.
+    pub fn count(&mut self)
+        ensures { self.new.places ≡ self.old.places }
+    {
+        self.more = self.more.saturating_add(1);
     }
 
     /// Takes in a place: keeps it, or counts it where as many are kept as may be.
@@ -139,7 +133,11 @@ impl<'a> Found<'a> {
 
     /// Takes in the place of a row, where there is one, and answers whether the rows behind it are to be looked at: not where
     /// it is wrong and there aren't as many rows as there should be, since they then differ only because they are shifted.
-    pub(crate) fn add_row(&mut self, place: Failure<'a>, as_many: bool) -> Result<bool, AllocError>
+    pub(crate) fn add_row(
+        &mut self,
+        place: Option<CheckPlace<'a>>,
+        as_many: bool,
+    ) -> Result<bool, AllocError>
         ensures { (s : Subject) →
             AreFailures s self.old.places.items → IfSome place.entry (FailsIn s) →
             OnOk result (AreFailures s self.new.places.items) }
@@ -168,18 +166,6 @@ impl<'a> Found<'a> {
         Ok(found)
     }
 
-    /// Whether as many places are kept as may be.
-    pub fn is_full(&self) -> bool {
-        self.places.len() >= self.most
-    }
-
-    /// Counts a place that isn't kept.
-    pub fn count(&mut self)
-        ensures { self.new.places ≡ self.old.places }
-    {
-        self.more = self.more.saturating_add(1);
-    }
-
     /// The places that are kept, in the order in which they were found.
     pub fn places(&self) -> &[CheckPlace<'a>]
         ensures { result.now ≡ self.now.places.items }
@@ -191,30 +177,4 @@ impl<'a> Found<'a> {
     pub fn more(&self) -> u64 {
         self.more
     }
-}
-
-/// What judges the things of a link, by their numbers, for a clause.
-pub(crate) trait Judge<'a, K> {
-    // The link.
-    ghost subject: { Self → Subject };
-
-    /// The place of the thing of a kind that has a number, where the clause fails there.
-    fn judge(&self, kind: K, number: usize) -> Failure<'a>
-        ensures { IfSome result (FailsIn (subject self.now)) };
-}
-
-/// Adds the places of the first so many things of a kind.
-pub(crate) fn add_all<'a, K: Copy, J: Judge<'a, K>>(
-    found: &mut Found<'a>,
-    judge: &J,
-    kind: K,
-    count: usize,
-) -> Added
-    requires { AreFailures (J.subject judge.now) found.old.places.items }
-    ensures { OnOk result (AreFailures (J.subject judge.now) found.new.places.items) }
-{
-    for number in 0..count {
-        found.add_some(judge.judge(kind, number))?;
-    }
-    Ok(())
 }

@@ -8,12 +8,12 @@ ghost use Rattle.elf_model.specs.Link.Slots.{got_bytes};
 ghost use Rattle.check_relocs.specs.Needs.{AreNeeds};
 ghost use Rattle.explain_check.specs.Places.{AreFailures, FailsIn};
 
-use crate::bytes::{byte_of, sum, wrong_byte};
+use crate::bytes::{at, byte_of, sum, wrong_byte, wrong_number};
 use crate::found::{Added, Found};
-use crate::numbers::wrong_number;
-use crate::place::{ByteOf, CheckPlace, Failure, NumberName, Referrer};
-use crate::relocation_places::{EntryAt, list_entries, object_at, place_at};
+use crate::place::{ByteOf, CheckPlace, Failure, NumberName};
+use crate::relocations::{place_at, referrer_at};
 use check_link::request_of_line;
+use check_load::KeptRelocation;
 use check_relocs::{Needs, needs_of, request_of};
 use checker::BoundLink;
 use checker::c07_got::wanted_bytes;
@@ -29,13 +29,6 @@ fn line_at<'m>(bound: &BoundLink<'_, 'm>, number: usize) -> Option<&'m BorrowedS
     bound.slots().lines().get(number)
 }
 
-/// The mark at a position; None where there is none.
-fn mark_of(marks: &[bool], position: usize) -> Option<bool>
-    ensures { result ≡ slice_get marks.now position }
-{
-    marks.get(position).copied()
-}
-
 /// The line that has a number, where it is for the slot of an earlier line, or no relocation asks for its slot.
 fn wrong_line<'a>(bound: &BoundLink<'_, 'a>, needs: &Needs, number: usize) -> Failure<'a>
     requires { AreNeeds (objects_of bound.now) bound.now.map.slots needs.now }
@@ -43,11 +36,11 @@ fn wrong_line<'a>(bound: &BoundLink<'_, 'a>, needs: &Needs, number: usize) -> Fa
 {
     let request = request_of_line(line_at(bound, number)?);
     let first = bound.slots().position(&request)?;
-    if first < number {
+    if first != number {
         let first = Some(first as u64);
         return Some(CheckPlace::SlotLine(number as u64, first, request));
     }
-    let asked = mark_of(&needs.asked, first)?;
+    let asked = at(&needs.asked, first)?;
     if asked {
         return None;
     }
@@ -64,24 +57,6 @@ fn wrong_presence<'a>(bound: &BoundLink<'_, 'a>, needs: &Needs) -> Failure<'a>
         return None;
     }
     Some(CheckPlace::Got(there))
-}
-
-/// A GOT whose size isn't that of its slots.
-fn wrong_size<'a>(bound: &BoundLink<'_, 'a>) -> Failure<'a>
-    ensures { IfSome result (FailsIn bound.now) }
-{
-    let slots = (bound.slots().lines().len() as u64).checked_mul(8)?;
-    wrong_number(bound, NumberName::GotSize, slots.checked_add(8)?)
-}
-
-/// The slot line that has a number, where its slot isn't behind those of the lines before.
-fn wrong_address<'a>(bound: &BoundLink<'_, 'a>, number: usize) -> Failure<'a>
-    ensures { IfSome result (FailsIn bound.now) }
-{
-    let got = bound.link().map.got?;
-    let behind = (number as u64).checked_mul(8)?.checked_add(8)?;
-    let wanted = got.address.checked_add(behind)?;
-    wrong_number(bound, NumberName::SlotAddress(number as u64), wanted)
 }
 
 /// The bytes that the GOT is to have.
@@ -101,8 +76,8 @@ fn wrong_got_byte<'a>(bound: &BoundLink<'_, 'a>, wanted: &[u8], k: u64) -> Failu
     if k >= got.size {
         return None;
     }
-    let address = sum(got.address, k)?;
-    wrong_byte(bound, ByteOf::Got(got), k, address, byte_of(wanted, k))
+    let there = bound.memory().byte(sum(got.address, k)?);
+    wrong_byte(bound, ByteOf::Got(got), k, there, Some(byte_of(wanted, k)))
 }
 
 /// The first wrong byte of word `i` of the GOT, which is to have these bytes.
@@ -110,8 +85,8 @@ fn first_of_word<'a>(bound: &BoundLink<'_, 'a>, wanted: &[u8], i: usize) -> Fail
     requires { wanted.now ≡ got_bytes (objects_of bound.now) (where_of bound.now) }
     ensures { IfSome result (FailsIn bound.now) }
 {
-    for j in 0..8 {
-        let k = (i as u64).checked_mul(8)?.checked_add(j)?;
+    let from = (i as u64).checked_mul(8)?;
+    for k in from..from.checked_add(8)? {
         let place = wrong_got_byte(bound, wanted, k);
         if place.is_some() {
             return place;
@@ -120,65 +95,53 @@ fn first_of_word<'a>(bound: &BoundLink<'_, 'a>, wanted: &[u8], i: usize) -> Fail
     None
 }
 
-/// A relocation that asks for a slot that isn't there.
-fn no_slot<'a>(bound: &BoundLink<'_, 'a>, at: &EntryAt) -> Failure<'a>
+/// A relocation that asks for a slot that isn't there, of the object that has a number.
+fn no_slot<'a>(bound: &BoundLink<'_, 'a>, object: usize, relocation: &KeptRelocation) -> Failure<'a>
     ensures { IfSome result (FailsIn bound.now) }
 {
-    let number = at.object;
-    let one = object_at(bound.bindings().objects(), number)?;
-    let referrer = Referrer { bound, number, one };
-    let place = place_at(&referrer, at.table, at.number)?;
-    let request = request_of(one, number as u64, &place.entry)?;
+    let here = referrer_at(bound.bindings(), object)?;
+    let place = place_at(&here, relocation)?;
+    let request = request_of(here.loaded, here.number, &place.entry)?;
     if bound.slots().has(&request) {
         return None;
     }
     Some(CheckPlace::NoSlot(place, request))
 }
 
-/// The relocations that ask for slots that aren't there, the first for each slot.
-fn unserved_of(alloc: Global, bound: &BoundLink<'_, '_>) -> Result<Vec<EntryAt>, AllocError> {
-    let mut told = BTreeSet::new(alloc);
-    let mut unserved = Vec::new(alloc);
-    for (object, one) in bound.bindings().objects().iter().enumerate() {
-        let mut entries = Vec::new(alloc);
-        list_entries(&mut entries, one, object)?;
-        for at in &entries {
-            let Some(request) = request_of(one, object as u64, &at.entry) else {
-                continue;
-            };
-            if !bound.slots().has(&request) && told.insert(request)? {
-                unserved.push(*at)?;
-            }
-        }
-    }
-    Ok(unserved)
-}
-
-/// Adds the relocations that ask for slots that aren't there.
-fn add_unserved<'a>(alloc: Global, found: &mut Found<'a>, bound: &BoundLink<'_, 'a>) -> Added
+/// Adds the relocations that ask for slots that aren't there, the first for each slot.
+fn add_unserved<'a>(found: &mut Found<'a>, bound: &BoundLink<'_, 'a>) -> Added
     requires { AreFailures bound.now found.old.places.items }
     ensures { OnOk result (AreFailures bound.now found.new.places.items) }
 {
-    for at in &unserved_of(alloc, bound)? {
-        found.add_some(no_slot(bound, at))?;
+    let mut told = BTreeSet::new(found.alloc);
+    for (object, one) in bound.bindings().objects().iter().enumerate() {
+        for relocation in one.relocations() {
+            let Some(request) = request_of(one, object as u64, &relocation.entry) else {
+                continue;
+            };
+            if !bound.slots().has(&request) && told.insert(request)? {
+                found.add_some(no_slot(bound, object, &relocation))?;
+            }
+        }
     }
     Ok(())
 }
 
 /// Adds where the seventh clause fails: the GOT as a whole, relocations without a slot, the GOT's size, and slot by slot the
 /// line, the address and the bytes, those of the GOT's first word with the first slot.
-pub fn add_c7<'a>(alloc: Global, found: &mut Found<'a>, bound: &BoundLink<'_, 'a>) -> Added
+pub fn add_c7<'a>(found: &mut Found<'a>, bound: &BoundLink<'_, 'a>) -> Added
     requires { AreFailures bound.now found.old.places.items }
     ensures { OnOk result (AreFailures bound.now found.new.places.items) }
 {
-    let needs = needs_of(alloc, bound.bindings())?;
-    let wanted = bytes_of_got(alloc, bound)?;
+    let needs = needs_of(found.alloc, bound.bindings())?;
+    let wanted = bytes_of_got(found.alloc, bound)?;
     found.add_some(wrong_presence(bound, &needs))?;
-    add_unserved(alloc, found, bound)?;
-    found.add_some(wrong_size(bound))?;
+    add_unserved(found, bound)?;
+    found.add_some(wrong_number(bound, NumberName::GotSize))?;
     for number in 0..wanted.len() / 8 {
         found.add_some(wrong_line(bound, &needs, number))?;
-        found.add_some(wrong_address(bound, number))?;
+        let address = NumberName::SlotAddress(number as u64);
+        found.add_some(wrong_number(bound, address))?;
         found.add_some(first_of_word(bound, &wanted, number))?;
     }
     Ok(())

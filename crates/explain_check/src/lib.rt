@@ -8,22 +8,15 @@ mod fill;
 mod found;
 mod got;
 mod lines;
-mod map_text;
 mod memory_text;
-mod numbers;
 mod place;
 mod placement;
-mod relocation_places;
 mod relocations;
-mod segments;
-mod symbol_lines;
 mod tables;
 mod text;
 mod thread_block;
 
 pub use explain::{explain_check, read_link};
 pub use found::{Found, clause_of};
-pub use place::{
-    ByteOf, BytePlace, CheckPlace, LineKey, NumberName, Part, SegmentPlace, TableByte, TableEntry,
-};
+pub use place::{ByteOf, BytePlace, CheckPlace, LineKey, NumberName, Part, TableEntry};
 pub use text::write_check_place;

@@ -1,19 +1,26 @@
-//! C2 and C3: lines of the map that are others than those of the objects that are loaded, of their sections and of common blocks.
+//! C2, C3, C12 and C13: lines of the map that are others than those of the objects that are loaded, of their sections, of common
+//! blocks and of names, or that are missing; and an `e_entry` that isn't the value of a lawful definition.
 ghost use Rattle.std.specs.Prelude.{◌≡◌, IfSome, OnOk};
-ghost use Rattle.elf_model.specs.Image.RightLink.{drop_rows, objects_of};
+ghost use Rattle.elf_model.specs.Image.RightLink.{Holds, drop_rows, objects_of};
+ghost use Rattle.elf_model.specs.declared.verdict.Clause.TheVariants as clause;
 ghost use Rattle.check_load.specs.Views.{loaded_views};
+ghost use Rattle.check_relocs.specs.LinkerUses.{AreUsed};
+ghost use Rattle.explain_check.specs.Facts.{IsEntryValue};
 ghost use Rattle.explain_check.specs.Places.{AreFailures, FailsIn};
 
 use crate::found::{Added, Found};
 use crate::place::{CheckPlace, Failure, LineKey};
-use check_link::Link;
+use check_link::{Link, entry_of};
 use check_load::Loaded;
 use check_places::c03_sections::drops::{drops_of, is_drop};
 use check_places::c03_sections::is_line_of;
-use checker::{LoadedLink, c02_loaded};
+use check_relocs::{Bindings, used_names};
+use check_tables::c13_symbols;
+use checker::{BoundLink, LoadedLink, c02_loaded};
 use elf_model::DropLine;
 use linkmap::Line;
-use std::alloc::Global;
+use std::alloc::{AllocError, Global};
+use std::collections::BTreeSet;
 
 /// The object line of a number, where it is another one than the object that is loaded asks for.
 fn wrong_object<'a>(link: &Link<'a>, loaded: &[Loaded<'a>], k: usize) -> Failure<'a>
@@ -159,12 +166,104 @@ fn add_places<'a>(found: &mut Found<'a>, loaded: &LoadedLink<'_, 'a>) -> Added
 }
 
 /// Adds where the third clause fails, but for kinds of sections and for common symbols that aren't sound.
-pub fn add_c3<'a>(alloc: Global, found: &mut Found<'a>, loaded: &LoadedLink<'_, 'a>) -> Added
+pub fn add_c3<'a>(found: &mut Found<'a>, loaded: &LoadedLink<'_, 'a>) -> Added
     requires { AreFailures loaded.now found.old.places.items }
     ensures { OnOk result (AreFailures loaded.now found.new.places.items) }
 {
-    let drops = drops_of(alloc, loaded.names().objects())?;
+    let drops = drops_of(found.alloc, loaded.names().objects())?;
     add_drops(found, loaded, &drops)?;
     add_places(found, loaded)?;
     add_commons(found, loaded)
+}
+
+/// The value of what the entry's name means, where its chosen definition stands in no section with SHF_TLS.
+fn entry_value(bindings: &Bindings<'_, '_, '_>, name: &[u8]) -> Option<u64>
+    ensures { IsEntryValue bindings.now.objects bindings.now.places name.now result }
+{
+    let symbol = bindings.chosen(name)?;
+    if bindings.is_in_thread_section(&symbol) {
+        return None;
+    }
+    let meaning = bindings.meant(&symbol)?;
+    Some(bindings.value_of(&meaning))
+}
+
+/// Adds that the twelfth clause fails.
+pub fn add_c12<'a>(found: &mut Found<'a>, bound: &BoundLink<'_, 'a>) -> Added
+    requires fails { ¬ Holds clause.C12 bound.now }
+    requires before { AreFailures bound.now found.old.places.items }
+    ensures { OnOk result (AreFailures bound.now found.new.places.items) }
+{
+    let link = bound.link();
+    let value = entry_value(bound.bindings(), entry_of(&link.plan));
+    found.add(CheckPlace::Entry(bound.memory().entry(), value))
+}
+
+/// The symbol line of a name, where the name asks for another one, given the linker's names that have one.
+fn wrong_symbol<'a>(
+    bound: &BoundLink<'_, 'a>,
+    names: &BTreeSet<&'a [u8]>,
+    name: &'a [u8],
+) -> Failure<'a>
+    requires { AreUsed (objects_of bound.now) names.now }
+    ensures { IfSome result (FailsIn bound.now) }
+{
+    let bindings = bound.bindings();
+    let meaning = c13_symbols::listed_meaning(bindings, names, name);
+    if c13_symbols::has_line(bound, name, &meaning) {
+        return None;
+    }
+    let wanted = c13_symbols::line_of(bindings, &meaning);
+    Some(CheckPlace::Line(LineKey::Symbol(name), wanted))
+}
+
+/// The names of wrong lines, and those without a line that ask for one: of definitions, and the linker's that have one.
+fn suspects<'a>(
+    alloc: Global,
+    bound: &BoundLink<'_, 'a>,
+    names: &BTreeSet<&'a [u8]>,
+) -> Result<Vec<&'a [u8]>, AllocError>
+    requires { AreUsed (objects_of bound.now) names.now }
+{
+    let link = bound.link();
+    let bindings = bound.bindings();
+    let definitions = bindings.definitions();
+    let mut told = BTreeSet::new(alloc);
+    let mut suspects = Vec::new(alloc);
+    for line in &link.map.symbols {
+        told.insert(line.name.as_slice())?;
+        if !c13_symbols::is_right_line(bindings, names, line) {
+            suspects.push(line.name.as_slice())?;
+        }
+    }
+    for k in 0..definitions.len() {
+        let Some(symbol) = definitions.get(k) else {
+            continue;
+        };
+        if bindings.is_chosen(&symbol) && !told.contains(symbol.name) {
+            suspects.push(symbol.name)?;
+        }
+    }
+    for name in names {
+        if !told.contains(*name) && c13_symbols::listed_meaning(bindings, names, name).is_some() {
+            suspects.push(*name)?;
+        }
+    }
+    Ok(suspects)
+}
+
+/// Adds where the thirteenth clause fails, but for symbols that aren't sound and second strong definitions of a name.
+pub fn add_c13<'a>(found: &mut Found<'a>, bound: &BoundLink<'_, 'a>) -> Added
+    requires { AreFailures bound.now found.old.places.items }
+    ensures { OnOk result (AreFailures bound.now found.new.places.items) }
+{
+    let names = used_names(found.alloc, bound.bindings())?;
+    for name in &suspects(found.alloc, bound, &names)? {
+        if found.is_full() {
+            found.count();
+            continue;
+        }
+        found.add_some(wrong_symbol(bound, &names, name))?;
+    }
+    Ok(())
 }

@@ -1,12 +1,9 @@
 //! How a place of memory reads: a line that names the piece, the relocation, the segment or the line of the map, and says
 //! what is there and what should be.
 
-use crate::map_text::{Kind, MapLine, line_number};
-use crate::place::{
-    ByteOf, BytePlace, CheckPlace, NumberName, SegmentPlace, TableByte, TableEntry,
-};
-use crate::text::{ObjectText, PieceOrGot, PieceText, Told, rights_text};
-use check_link::{Link, Placed};
+use crate::place::{ByteOf, BytePlace, CheckPlace, NumberName, TableEntry};
+use crate::text::{ObjectText, PieceText, Told, line_in, rights_text};
+use check_link::Link;
 use elf_model::ProgramHeader;
 use input_names::{FaultOf, Name, RelocationEntry, RelocationPlace, RelocationSymbol};
 use std::fmt;
@@ -24,33 +21,33 @@ fn write_entry<W: Write>(out: &mut W, link: &Link<'_>, place: &RelocationPlace<'
     write!(out, "{}", RelocationEntry(place, true))
 }
 
-/// The byte that is there, or that there is none, and the one that should be.
+/// A byte; what there is where there is none.
 #[derive(Clone, Copy)]
-struct ByteText(Option<u8>, &'static str, Option<u8>);
+struct ByteText(Option<u8>, &'static str);
 
 impl fmt::Display for ByteText {
     fn fmt<W: fmt::Write>(&self, f: &mut fmt::Formatter<W>) -> fmt::Result {
-        let ByteText(there, none, wanted) = *self;
-        match there {
-            Some(byte) => write!(f, "is {byte:#04x}"),
-            None => write!(f, "is {none}"),
-        }?;
-        match wanted {
-            Some(byte) => write!(f, ", and should be {byte:#04x}"),
-            None => write!(f, ", and should be {none}"),
+        match self.0 {
+            Some(byte) => write!(f, "{byte:#04x}"),
+            None => f.write_str(self.1),
         }
     }
 }
 
 /// Writes where the memory or the file part of a segment ends, and where it should.
-fn write_end<W: Write>(out: &mut W, place: &SegmentPlace, in_file: bool, wanted: u64) -> Told {
-    let h = &place.header;
+pub fn write_end<W: Write>(
+    out: &mut W,
+    number: u64,
+    header: &ProgramHeader,
+    in_file: bool,
+    wanted: u64,
+) -> Told {
     let (part, size) = match in_file {
-        true => ("file part", h.p_filesz),
-        false => ("memory", h.p_memsz),
+        true => ("file part", header.p_filesz),
+        false => ("memory", header.p_memsz),
     };
-    let (at, end) = (h.p_vaddr, h.p_vaddr.saturating_add(size));
-    write!(out, "segment {} at {at:#x}: ", place.number)?;
+    let (at, end) = (header.p_vaddr, header.p_vaddr.saturating_add(size));
+    write!(out, "segment {number} at {at:#x}: ")?;
     if wanted == at && !in_file {
         return out.write_all(b"nothing is in it");
     }
@@ -76,20 +73,30 @@ impl fmt::Display for HeaderText<'_> {
     }
 }
 
-/// Writes a place of the seventh clause.
-pub fn write_got<W: Write>(out: &mut W, link: &Link<'_>, place: &CheckPlace<'_>) -> Told {
+/// The number of the line of a map with this text that is the slot line of a number.
+fn slot_line(map: &[u8], number: u64) -> usize {
+    match line_in(map, "slot ", number) {
+        Some((line, _)) => line,
+        None => 0,
+    }
+}
+
+/// Writes a place of the seventh clause; the map has this text.
+pub fn write_got<W: Write>(
+    out: &mut W,
+    link: &Link<'_>,
+    map: &[u8],
+    place: &CheckPlace<'_>,
+) -> Told {
     match place {
         CheckPlace::Got(true) => out.write_all(b"the map has a GOT, for which no relocation asks"),
         CheckPlace::Got(false) => {
             out.write_all(b"the map has no GOT, and a relocation asks for one")
         }
         CheckPlace::SlotLine(number, first, _) => {
-            write!(out, "{}: ", MapLine(link, Kind::Slot, *number))?;
+            write!(out, "line {} of the map: ", slot_line(map, *number))?;
             match first {
-                Some(first) => {
-                    let first = line_number(link, Kind::Slot, *first);
-                    write!(out, "the slot of line {first} again")
-                }
+                Some(k) => write!(out, "the slot of line {} again", slot_line(map, *k)),
                 None => out.write_all(b"no relocation asks for this slot"),
             }
         }
@@ -109,7 +116,7 @@ pub fn write_thread<W: Write>(out: &mut W, link: &Link<'_>, place: &CheckPlace<'
             write!(out, "PT_TLS: {there}; it should be: {wanted}")
         }
         CheckPlace::InThreadBlock(piece, at, start, end) => {
-            write!(out, "{} at {at:#x} begins before ", PieceOrGot(link, piece))?;
+            write!(out, "{} at {at:#x} begins before ", PieceText(link, *piece))?;
             write!(
                 out,
                 "the end of the thread-local bytes, from {start:#x} to {end:#x}"
@@ -117,8 +124,10 @@ pub fn write_thread<W: Write>(out: &mut W, link: &Link<'_>, place: &CheckPlace<'
         }
         CheckPlace::ThreadBytes(header) => {
             let (at, size) = (header.p_vaddr, header.p_filesz);
-            out.write_all(b"PT_TLS: no segment holds its ")?;
-            write!(out, "{size:#x} bytes from {at:#x} on")
+            write!(
+                out,
+                "PT_TLS: no segment holds its {size:#x} bytes from {at:#x} on"
+            )
         }
         _ => Ok(()),
     }
@@ -147,57 +156,63 @@ pub fn write_relocation<W: Write>(out: &mut W, link: &Link<'_>, place: &CheckPla
     }
 }
 
-/// Writes what a piece is.
-fn write_piece<W: Write>(out: &mut W, link: &Link<'_>, placed: &Placed<'_>) -> Told {
-    write!(out, "{}", PieceText(link, placed))
+/// The entry of the symbol table that a byte is in, if it is in one.
+#[derive(Clone, Copy)]
+struct EntryText<'e>(&'e Option<TableEntry<'e>>);
+
+impl fmt::Display for EntryText<'_> {
+    fn fmt<W: fmt::Write>(&self, f: &mut fmt::Formatter<W>) -> fmt::Result {
+        match self.0 {
+            Some(TableEntry { number, name }) => {
+                let name = Name(name);
+                write!(f, "in entry {number} of the symbol table, of {name}, ")
+            }
+            None => Ok(()),
+        }
+    }
 }
 
-/// Writes a byte of memory, and what it is of.
-pub fn write_byte<W: Write>(out: &mut W, link: &Link<'_>, place: &BytePlace<'_>) -> Told {
-    let (k, byte) = (
-        place.offset,
-        ByteText(place.there, "not mapped", Some(place.wanted)),
-    );
-    match &place.of {
+/// Writes a byte, and what it is of.
+pub fn write_byte<W: Write>(
+    out: &mut W,
+    link: &Link<'_>,
+    of: &ByteOf<'_>,
+    place: &BytePlace,
+) -> Told {
+    let k = place.offset;
+    let none = match of {
+        ByteOf::Tail(_, _) => "the end of the file",
+        _ => "not mapped",
+    };
+    let (there, wanted) = (ByteText(place.there, none), ByteText(place.wanted, none));
+    match of {
         ByteOf::Got(got) => {
             let at = got.address.saturating_add(k);
-            write!(out, "the GOT: byte {k:#x} at {at:#x} {byte}")
+            write!(out, "the GOT: byte {k:#x} at {at:#x} is {there}")
         }
-        ByteOf::Piece(_, placed, relocation) => {
-            write_piece(out, link, placed)?;
-            let at = placed.at.saturating_add(k);
-            write!(out, ": byte {k:#x} at {at:#x} {byte}")?;
-            match relocation {
-                Some(place) => write!(out, ": {}", RelocationEntry(place, true)),
-                None => Ok(()),
-            }
+        ByteOf::Piece(_, placed, _) => {
+            let (text, at) = (PieceText(link, Some(*placed)), placed.at.saturating_add(k));
+            write!(out, "{text}: byte {k:#x} at {at:#x} is {there}")
         }
         ByteOf::Fill(rights) => {
             let rights = rights_text(*rights);
             write!(
                 out,
-                "{k:#x}, in no section and in a segment with {rights}, {byte}"
+                "{k:#x}, in no section and in a segment with {rights}, is {there}"
             )
         }
+        ByteOf::Gap => write!(out, "offset {k:#x} of the image: {there} is in no segment"),
+        ByteOf::Tail(end, entry) => {
+            let at = end.saturating_add(k);
+            write!(out, "the image at byte {at:#x}, after its last segment, ")?;
+            write!(out, "{}is {there}", EntryText(entry))
+        }
+    }?;
+    write!(out, ", and should be {wanted}")?;
+    match of {
+        ByteOf::Piece(_, _, Some(place)) => write!(out, ": {}", RelocationEntry(place, true)),
+        _ => Ok(()),
     }
-}
-
-/// Writes a byte after the last file part, and the entry of the symbol table that it is in.
-pub fn write_table_byte<W: Write>(out: &mut W, place: &TableByte<'_>) -> Told {
-    let at = place.parts_end.saturating_add(place.number);
-    write!(out, "the image at byte {at:#x}, after its last segment, ")?;
-    if let Some(TableEntry { number, name }) = &place.entry {
-        write!(
-            out,
-            "in entry {number} of the symbol table, of {}, ",
-            Name(name)
-        )?;
-    }
-    write!(
-        out,
-        "{}",
-        ByteText(place.there, "the end of the file", place.wanted)
-    )
 }
 
 /// What a number is, and whether it reads in hexadecimal.
@@ -217,15 +232,16 @@ fn number_text(name: NumberName) -> (&'static str, bool) {
     }
 }
 
-/// Writes a number that isn't the wanted one.
+/// Writes a number that isn't the wanted one; the map has this text.
 pub fn write_number<W: Write>(
     out: &mut W,
     link: &Link<'_>,
+    map: &[u8],
     name: NumberName,
     numbers: (u64, u64),
 ) -> Told {
     if let NumberName::SlotAddress(k) = name {
-        write!(out, "{}: ", MapLine(link, Kind::Slot, k))?;
+        write!(out, "line {} of the map: ", slot_line(map, k))?;
     }
     let ((text, hex), (there, wanted)) = (number_text(name), numbers);
     match hex {
@@ -236,16 +252,4 @@ pub fn write_number<W: Write>(
         out.write_all(b": the map has no symtab line")?;
     }
     Ok(())
-}
-
-/// Writes a place of the eleventh clause, but for a byte of memory.
-pub fn write_fill<W: Write>(out: &mut W, place: &CheckPlace<'_>) -> Told {
-    match place {
-        CheckPlace::SegmentEnd(place, in_file, end) => write_end(out, place, *in_file, *end),
-        CheckPlace::Gap(offset, byte) => {
-            write!(out, "offset {offset:#x} of the image: {byte:#04x} ")?;
-            out.write_all(b"is in no segment, and should be 0x00")
-        }
-        _ => Ok(()),
-    }
 }

@@ -1,22 +1,17 @@
 //! The places at which a clause fails.
-ghost use Rattle.std.specs.Prelude.{◌≡◌, Some};
-ghost use Rattle.std.specs.List.{slice_get};
-ghost use Rattle.elf_model.specs.Image.RightLink.{objects_of};
-ghost use Rattle.check_load.specs.Views.{loaded_view};
 
 use check_link::{Placed, Request};
-use check_load::Loaded;
-use checker::BoundLink;
 use elf_model::{Clause, GotLine, ProgramHeader, Thing};
 use input_names::{RelocationFault, RelocationPlace};
 use linkmap::Line;
 
-/// One of the things of a link, or of its thread-local sections, which take up addresses even if they have no bytes in memory.
+/// One of the things of a link: the headers, the GOT, a section or a common block; or a thread-local section with all addresses
+/// that it takes up, even if it has no bytes in memory.
 #[derive(Clone, Copy, Debug)]
 pub struct Part<'a> {
-    /// Whether it is one of the thread-local sections.
+    /// Whether it is a thread-local section as such.
     pub thread: bool,
-    /// The number among the things, or among the thread-local sections, from 0.
+    /// The number among the things, from 0.
     pub number: u64,
     pub thing: Thing,
     /// The section or the common block that it is; None of the headers, the first thing, and of the GOT, the second.
@@ -41,17 +36,6 @@ pub struct TableEntry<'a> {
     pub name: &'a [u8],
 }
 
-/// A byte after the last file part, which ends at an offset of the file: its number from there on, what is there, what should
-/// be, as far as there is such, and the entry of the symbol table that it is in.
-#[derive(Clone, Copy, Debug)]
-pub struct TableByte<'a> {
-    pub parts_end: u64,
-    pub number: u64,
-    pub there: Option<u8>,
-    pub wanted: Option<u8>,
-    pub entry: Option<TableEntry<'a>>,
-}
-
 /// A number of the map or of the image that is determined by others.
 #[derive(Clone, Copy, Debug)]
 pub enum NumberName {
@@ -73,7 +57,7 @@ pub enum NumberName {
     NamesSection,
 }
 
-/// What a byte of memory is of.
+/// What a byte of memory or of the file is of.
 #[derive(Clone, Copy, Debug)]
 pub enum ByteOf<'a> {
     /// C7: the GOT.
@@ -83,24 +67,21 @@ pub enum ByteOf<'a> {
     Piece(u64, Placed<'a>, Option<RelocationPlace<'a>>),
     /// C11: no thing, in a segment that has the rights X 1, W 2, R 4 in sum.
     Fill(u64),
+    /// C11: no file part, in the file before the end of the last one.
+    Gap,
+    /// C14: the file after its last part, which ends at an offset, and the entry of the symbol table, where it is in one.
+    Tail(u64, Option<TableEntry<'a>>),
 }
 
-/// A byte of memory that isn't the wanted one.
+/// A byte that isn't the wanted one.
 #[derive(Clone, Copy, Debug)]
-pub struct BytePlace<'a> {
-    pub of: ByteOf<'a>,
-    /// Which byte of the GOT or of the piece it is, from 0; of fill, its address.
+pub struct BytePlace {
+    /// Which byte of the GOT, of the piece or of the end of the file it is, from 0; of fill its address, of a gap its offset.
     pub offset: u64,
-    /// The byte that memory has there; None where no segment maps the address.
+    /// The byte that is there; None where no segment maps the address, or the file has ended.
     pub there: Option<u8>,
-    pub wanted: u8,
-}
-
-/// A PT_LOAD: its number among these, from 0.
-#[derive(Clone, Copy, Debug)]
-pub struct SegmentPlace {
-    pub number: u64,
-    pub header: ProgramHeader,
+    /// None where the file should have ended.
+    pub wanted: Option<u8>,
 }
 
 /// A place at which a clause fails, where there is one.
@@ -126,14 +107,14 @@ pub enum CheckPlace<'a> {
     First(u64),
     /// C7: whether the map has a GOT, where a relocation asks for one if it hasn't, and none does if it has.
     Got(bool),
-    /// C7: the slot line of a number, from 0, of the same slot as an earlier one; or for whose slot no relocation asks.
+    /// C7: the slot line of a number, from 0, for the slot of an earlier one; or for whose slot no relocation asks.
     SlotLine(u64, Option<u64>, Request<'a>),
     /// C7: a kept relocation that asks for a slot that no line has.
     NoSlot(RelocationPlace<'a>, Request<'a>),
     /// A number, and what it should be.
     Number(NumberName, u64, u64),
-    /// A byte of memory that isn't the wanted one, the first of its word, piece or gap.
-    Byte(BytePlace<'a>),
+    /// A byte that isn't the wanted one, the first of its word, piece, gap or table.
+    Byte(ByteOf<'a>, BytePlace),
     /// C8: the PT_TLS header that the image has, and the one that the thread-local pieces ask for.
     ThreadHeader(Option<ProgramHeader>, Option<ProgramHeader>),
     /// C8: a piece, or the GOT where it is None, that isn't thread-local and has an address among the initial bytes of
@@ -148,27 +129,14 @@ pub enum CheckPlace<'a> {
     Overlap(RelocationPlace<'a>, RelocationPlace<'a>),
     /// C9: a kept relocation whose value, the first number, doesn't fit its field; the second number is the field's address.
     Value(RelocationPlace<'a>, u64, u64),
-    /// C11: a PT_LOAD whose memory, or whose file part where it is true, doesn't end with the last thing in it that has bytes
-    /// there; where that ends, or where the segment begins if nothing in it has bytes there.
-    SegmentEnd(SegmentPlace, bool, u64),
-    /// C11: a byte of the file in no file part that isn't 0, the first of its gap: its offset and its value.
-    Gap(u64, u8),
+    /// C11: a PT_LOAD, by its number among these, whose memory, or whose file part where it is true, doesn't end with the last
+    /// thing in it that has bytes there; where that ends, or where the segment begins if nothing in it has bytes there.
+    SegmentEnd(u64, ProgramHeader, bool, u64),
     /// C12: `e_entry`, and the value of the entry's definition, if it has a lawful one, which is another.
     Entry(u64, Option<u64>),
     /// C14: whether the map has the line of a symbol table, where it must be otherwise.
     Symtab(bool),
-    /// C14: the first byte after the last file part that is another one than it should be.
-    TableByte(TableByte<'a>),
     /// A clause that fails, of which no place is told: where the inputs themselves are refused, and where the image isn't
     /// one.
     Whole(Clause),
-}
-
-/// An object of a link whose relocations are looked at, with its number.
-#[derive(Drop)]
-pub struct Referrer<'r, 'o, 'a> {
-    pub bound: &'r BoundLink<'o, 'a>,
-    pub number: usize,
-    pub one: &'r Loaded<'a>,
-    ghost own: { slice_get (objects_of bound.now) number ≡ Some (loaded_view one.now) },
 }

@@ -1,22 +1,18 @@
 //! C5 and C6: things that aren't aligned, lie outside of the addresses, share one or lie in no segment with their rights, sections
 //! that aren't close after the one before them, and a first segment that doesn't begin at the base.
-ghost use Rattle.std.specs.Prelude.{◌≡◌, ◌-◌, ◌<◌, ◌⊎◌, All, Contains, IfNone, IfOk, IfSome, IsTrue, None, OnOk, Some, cond, false, filter, length, nat_le, option_map, true};
+ghost use Rattle.std.specs.Prelude.{◌≡◌, All, Contains, IfNone, IfSome, IsTrue, OnOk, false, option_map, true};
 ghost use Rattle.std.specs.List.{slice_get};
 ghost use Rattle.elf_model.specs.Image.MemoryImage.{Encloses, loads};
-ghost use Rattle.elf_model.specs.Image.RightLink.{placed_of, things_of};
-ghost use Rattle.elf_model.specs.Link.Placement as placement;
-ghost use Rattle.elf_model.specs.Link.Placement.{AreApart, IsNext, LiesInSegment, got_things, is_thread_place};
+ghost use Rattle.elf_model.specs.Link.Placement.{AreApart, LiesInSegment};
 ghost use Rattle.check_link.specs.Views.{placed_view, placed_views};
+ghost use Rattle.explain_check.specs.Facts.{IsPart, MustLie, piece_of};
 ghost use Rattle.explain_check.specs.Places.{AreFailures, FailsIn};
-ghost use Rattle.explain_check.specs.PlacementPlaces.{AreThreads, IsPart, MustLie, ordered_sections, piece_of};
 
 use crate::found::{Added, Found};
 use crate::place::{CheckPlace, Failure, Part};
-use check_link::{
-    Placed, base_of, first_address, output_section, range_of_placed, thread_ranges_of,
-};
+use check_link::{Placed, base_of, first_address, range_of_placed};
 use check_places::c05_placed::array_order::in_array_order;
-use check_places::c05_placed::neighbours::{Lasts, is_near};
+use check_places::c05_placed::neighbours::far_pairs;
 use check_places::c05_placed::{is_aligned, is_within};
 use check_places::c06_rights::{lies_if_nonempty, lies_in_segment};
 use check_stages::encloses;
@@ -34,7 +30,7 @@ fn at_number<'a>(pieces: &[Placed<'a>], k: usize) -> Option<Placed<'a>>
 
 /// The piece that the thing with a number is: none where it is the headers or the GOT.
 fn piece_at<'a>(placed: &PlacedLink<'_, 'a>, k: usize) -> Option<Placed<'a>>
-    ensures { piece_of placed.now false k ≡ option_map placed_view result }
+    ensures { piece_of placed.now k ≡ option_map placed_view result }
 {
     let gots = placed.gots().len();
     if k <= gots {
@@ -43,48 +39,15 @@ fn piece_at<'a>(placed: &PlacedLink<'_, 'a>, k: usize) -> Option<Placed<'a>>
     at_number(placed.placed(), k - 1 - gots)
 }
 
-/// The thing that has a number.
-fn thing_at<'a>(placed: &PlacedLink<'_, 'a>, k: usize) -> Option<Part<'a>>
+/// The thread-local section that has a number among the things, with its addresses.
+fn thread_at<'a>(placed: &PlacedLink<'_, 'a>, k: usize) -> Option<Part<'a>>
     ensures part { IfSome result (IsPart placed.now) }
-    ensures thing { IfSome result (λ p. p.thread ≡ false) }
-{
-    let thing = placed.things().get(k).copied()?;
-    Some(Part {
-        thread: false,
-        number: k as u64,
-        thing,
-        piece: piece_at(placed, k),
-    })
-}
-
-/// The thread-local sections among the placed pieces.
-fn threads_of<'a>(alloc: Global, placed: &[Placed<'a>]) -> Result<Vec<Placed<'a>>, AllocError>
-    ensures { IfOk result (λ v. placed_views v.items
-        ≡ filter is_thread_place (placed_views placed.now)) }
-{
-    let mut threads = Vec::new(alloc);
-    for q in placed {
-        if q.piece.header.is_thread_local() {
-            threads.push(*q)?;
-        }
-    }
-    Ok(threads)
-}
-
-/// A placed link with its thread-local sections.
-#[derive(Drop)]
-struct Parts<'p, 'o, 'a> {
-    placed: &'p PlacedLink<'o, 'a>,
-    threads: &'p [Placed<'a>],
-    ghost are: { AreThreads placed.now threads.now },
-}
-
-/// The thread-local section that has a number among these.
-fn thread_at<'a>(parts: &Parts<'_, '_, 'a>, k: usize) -> Option<Part<'a>>
-    ensures part { IfSome result (IsPart parts.now.placed.now) }
     ensures thread { IfSome result (λ p. p.thread ≡ true) }
 {
-    let piece = at_number(parts.threads, k)?;
+    let piece = piece_at(placed, k)?;
+    if !piece.piece.header.is_thread_local() {
+        return None;
+    }
     Some(Part {
         thread: true,
         number: k as u64,
@@ -93,23 +56,27 @@ fn thread_at<'a>(parts: &Parts<'_, '_, 'a>, k: usize) -> Option<Part<'a>>
     })
 }
 
-/// The thing that has a number, or the thread-local section that has it among these.
-fn part_at<'a>(parts: &Parts<'_, '_, 'a>, thread: bool, k: usize) -> Option<Part<'a>>
-    ensures part { IfSome result (IsPart parts.now.placed.now) }
+/// The thing that has a number, or the thread-local section that has it, with its addresses.
+fn part_at<'a>(placed: &PlacedLink<'_, 'a>, thread: bool, k: usize) -> Option<Part<'a>>
+    ensures part { IfSome result (IsPart placed.now) }
     ensures list { IfSome result (λ p. p.thread ≡ thread) }
 {
     if thread {
-        thread_at(parts, k)
-    } else {
-        thing_at(parts.placed, k)
+        return thread_at(placed, k);
     }
+    Some(Part {
+        thread,
+        number: k as u64,
+        thing: placed.things().get(k).copied()?,
+        piece: piece_at(placed, k),
+    })
 }
 
 /// A thing that isn't aligned.
 fn unaligned<'a>(placed: &PlacedLink<'_, 'a>, k: usize) -> Failure<'a>
     ensures { IfSome result (FailsIn placed.now) }
 {
-    let part = thing_at(placed, k)?;
+    let part = part_at(placed, false, k)?;
     if is_aligned(&part.thing) {
         return None;
     }
@@ -117,11 +84,11 @@ fn unaligned<'a>(placed: &PlacedLink<'_, 'a>, k: usize) -> Failure<'a>
 }
 
 /// A part that doesn't lie from the base on and below 2^46.
-fn outside<'a>(parts: &Parts<'_, '_, 'a>, thread: bool, k: usize) -> Failure<'a>
-    ensures { IfSome result (FailsIn parts.now.placed.now) }
+fn outside<'a>(placed: &PlacedLink<'_, 'a>, thread: bool, k: usize) -> Failure<'a>
+    ensures { IfSome result (FailsIn placed.now) }
 {
-    let part = part_at(parts, thread, k)?;
-    let link = parts.placed.link();
+    let part = part_at(placed, thread, k)?;
+    let link = placed.link();
     if is_within(base_of(&link.plan), &part.thing) {
         return None;
     }
@@ -138,24 +105,30 @@ fn begins_in(first: &Thing, second: &Thing) -> bool
     second.at - first.at < first.size
 }
 
-/// Two parts of one list, by their numbers, of which the second one begins in the first one.
-fn shared<'a>(parts: &Parts<'_, '_, 'a>, thread: bool, i: usize, j: usize) -> Failure<'a>
-    ensures { IfSome result (FailsIn parts.now.placed.now) }
+/// Two parts, both things or both thread-local sections, of which the second one begins in the first one.
+fn shared<'a>(placed: &PlacedLink<'_, 'a>, thread: bool, i: usize, j: usize) -> Failure<'a>
+    ensures { IfSome result (FailsIn placed.now) }
 {
-    let first = part_at(parts, thread, i)?;
-    let second = part_at(parts, thread, j)?;
+    let first = part_at(placed, thread, i)?;
+    let second = part_at(placed, thread, j)?;
     if first.number == second.number || !begins_in(&first.thing, &second.thing) {
         return None;
     }
     Some(CheckPlace::Shared(first, second))
 }
 
-/// The pairs of things, by their numbers, of which the second one begins below where the one ends that reaches furthest of those
+/// The pairs of parts, by their numbers, of which the second one begins below where the one ends that reaches furthest of those
 /// before it, in the order of their addresses.
-fn overlapping(alloc: Global, things: &[Thing]) -> Result<Vec<(usize, usize)>, AllocError> {
+fn overlapping(
+    alloc: Global,
+    placed: &PlacedLink<'_, '_>,
+    thread: bool,
+) -> Result<Vec<(usize, usize)>, AllocError> {
     let mut ordered = Vec::new(alloc);
-    for (k, thing) in things.iter().enumerate() {
-        ordered.push((thing.at, thing.at.saturating_add(thing.size), k))?;
+    for k in 0..placed.things().len() {
+        if let Some(Part { thing, .. }) = part_at(placed, thread, k) {
+            ordered.push((thing.at, thing.at.saturating_add(thing.size), k))?;
+        }
     }
     ordered.sort_by_key(|t| t.0)?;
     let mut pairs = Vec::new(alloc);
@@ -171,86 +144,43 @@ fn overlapping(alloc: Global, things: &[Thing]) -> Result<Vec<(usize, usize)>, A
     Ok(pairs)
 }
 
-/// Adds the things, or the thread-local sections with these ranges, that lie outside of the addresses or share one.
-fn add_parts<'a>(
-    alloc: Global,
-    found: &mut Found<'a>,
-    parts: &Parts<'_, '_, 'a>,
-    thread: bool,
-    ranges: &[Thing],
-) -> Added
-    requires { AreFailures parts.now.placed.now found.old.places.items }
-    ensures { OnOk result (AreFailures parts.now.placed.now found.new.places.items) }
+/// Adds the things, or the thread-local sections, that lie outside of the addresses or share one.
+fn add_parts<'a>(found: &mut Found<'a>, placed: &PlacedLink<'_, 'a>, thread: bool) -> Added
+    requires { AreFailures placed.now found.old.places.items }
+    ensures { OnOk result (AreFailures placed.now found.new.places.items) }
 {
-    for k in 0..ranges.len() {
-        found.add_some(outside(parts, thread, k))?;
+    for k in 0..placed.things().len() {
+        found.add_some(outside(placed, thread, k))?;
     }
-    let pairs = overlapping(alloc, ranges)?;
-    for (i, j) in &pairs {
-        found.add_some(shared(parts, thread, *i, *j))?;
+    for (i, j) in &overlapping(found.alloc, placed, thread)? {
+        found.add_some(shared(placed, thread, *i, *j))?;
     }
     Ok(())
 }
 
-/// The last section of an output section, if there is one, and the next one of it, by their numbers among the sections in the order
-/// of their output sections, where they aren't close together.
-fn far<'a>(
-    placed: &PlacedLink<'_, 'a>,
-    sections: &[Placed<'a>],
-    last: Option<usize>,
-    next: usize,
-) -> Failure<'a>
-    requires sections { placed_views sections.now ≡ ordered_sections placed.now }
-    requires next { IfSome last (λ i. (d : placement.Placed) →
-        IsNext (ordered_sections placed.now) i next d) }
-    ensures { IfSome result (FailsIn placed.now) }
-{
-    let _placed = placed;
-    let first = at_number(sections, last?)?;
-    let second = at_number(sections, next)?;
-    if is_near(&first, &second) {
-        return None;
-    }
-    Some(CheckPlace::Far(first, second))
-}
-
-/// Adds the sections, which are in the order of their output sections, that aren't close after the one before them.
-fn add_far<'a>(
-    alloc: Global,
-    found: &mut Found<'a>,
-    placed: &PlacedLink<'_, 'a>,
-    sections: &[Placed<'a>],
-) -> Added
-    requires sections { placed_views sections.now ≡ ordered_sections placed.now }
-    requires before { AreFailures placed.now found.old.places.items }
+/// Adds the sections that aren't close after the one before them in the order of their output sections.
+fn add_far<'a>(found: &mut Found<'a>, placed: &PlacedLink<'_, 'a>) -> Added
+    requires { AreFailures placed.now found.old.places.items }
     ensures { OnOk result (AreFailures placed.now found.new.places.items) }
 {
-    let mut lasts = Lasts::new(alloc);
-    for (j, next) in sections.iter().enumerate() {
-        let last = lasts.replace(&output_section(&next.piece), j)?;
-        found.add_some(far(placed, sections, last, j))?;
+    let sections = in_array_order(found.alloc, placed.sections())?;
+    for (first, second) in &far_pairs(found.alloc, &sections)? {
+        found.add(CheckPlace::Far(*first, *second))?;
     }
     Ok(())
 }
 
 /// Adds where the fifth clause fails.
-pub fn add_c5<'a>(alloc: Global, found: &mut Found<'a>, placed: &PlacedLink<'_, 'a>) -> Added
+pub fn add_c5<'a>(found: &mut Found<'a>, placed: &PlacedLink<'_, 'a>) -> Added
     requires { AreFailures placed.now found.old.places.items }
     ensures { OnOk result (AreFailures placed.now found.new.places.items) }
 {
     for k in 0..placed.things().len() {
         found.add_some(unaligned(placed, k))?;
     }
-    let threads = threads_of(alloc, placed.placed())?;
-    let parts = Parts {
-        placed,
-        threads: &threads,
-    };
-    add_parts(alloc, found, &parts, false, placed.things())?;
-    let ranges = thread_ranges_of(alloc, placed.placed())?;
-    add_parts(alloc, found, &parts, true, &ranges)?;
-    let sections = in_array_order(alloc, placed.sections())?;
-    add_far(alloc, found, placed, &sections)
+    add_parts(found, placed, false)?;
+    add_parts(found, placed, true)?;
+    add_far(found, placed)
 }
 
 /// Whether the thing with a number, which is empty and not the GOT, or lies whole in a segment with exactly its rights.
@@ -281,12 +211,11 @@ fn segment_of(memory: &Memory<'_>, thing: &Thing) -> Option<ProgramHeader>
 fn unheld<'a>(placed: &PlacedLink<'_, 'a>, k: usize) -> Failure<'a>
     ensures { IfSome result (FailsIn placed.now) }
 {
-    let part = thing_at(placed, k)?;
+    let part = part_at(placed, false, k)?;
     if is_held(placed, part.number, &part.thing) {
         return None;
     }
-    let memory = placed.memory();
-    let segment = segment_of(memory, &part.thing);
+    let segment = segment_of(placed.memory(), &part.thing);
     Some(CheckPlace::Unheld(part, segment))
 }
 

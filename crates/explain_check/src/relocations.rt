@@ -1,23 +1,124 @@
 //! C9: kept relocations that aren't lawful, those whose values don't fit their fields, and those of an object whose fields share a
-//! byte: neighbours in the order of their fields.
-ghost use Rattle.std.specs.Prelude.{◌≡◌, ◌↔◌, ◌+◌, ◌≤◌, IfSome, IsTrue, OnOk, Some};
-ghost use Rattle.elf_model.specs.Image.RightLink.{AreRelocationsRight};
+//! byte: neighbours in the order of their fields. And where any kept relocation is.
+ghost use Rattle.std.specs.Prelude.{◌≡◌, ◌↔◌, ◌+◌, ◌<◌, ◌≤◌, IfSome, IsTrue, OnOk, Some};
+ghost use Rattle.elf_model.specs.Image.RightLink.{AreRelocationsRight, Subject, objects_of};
+ghost use Rattle.elf_model.specs.Inputs.ObjectFile.{rela_type};
+ghost use Rattle.elf_model.specs.Link.Relocation.{kind_of};
+ghost use Rattle.check_relocs.specs.Bindings.{bound_of};
 ghost use Rattle.check_relocs.specs.Kinds.{kind_view};
 ghost use Rattle.check_relocs.specs.LawfulFields as fields;
+ghost use Rattle.check_relocs.specs.Widths.{IsWidth};
+ghost use Rattle.check_relocs.specs.Referrers.{object_here, objects_here};
+ghost use Rattle.input_names.specs.RelocationPlaces.{IsKeptOf};
+ghost use Rattle.explain_check.specs.Facts.{AreTerms, IsFieldOver, IsWrongWith, width_of_entry};
 ghost use Rattle.explain_check.specs.Places.{AreFailures, FailsIn};
-ghost use Rattle.explain_check.specs.RelocationPlaces.{IsWrongWith};
 
 use crate::found::{Added, Found};
-use crate::place::{CheckPlace, Failure, Referrer};
-use crate::relocation_places::{EntryAt, list_entries, object_at, place_at, width_of};
+use crate::place::{CheckPlace, Failure};
+use check_load::{KeptRelocation, Loaded};
 use check_relocs::{
-    Kind, LinkTerms, Relocated, Target, Terms, fits, is_mismatch, kind_of, link_terms,
-    refers_to_dropped, relocated, target_of_symbol, value_of,
+    Bindings, Kind, LinkTerms, Referrer, Relocated, Target, Terms, fits, is_mismatch, is_some_kind,
+    kind_of, link_terms, refers_to_dropped, relocated, target_of_symbol, value_of,
 };
 use checker::BoundLink;
 use elf_model::Rela;
-use input_names::{RelocationFault, begins_in};
-use std::alloc::Global;
+use input_names::{RelocationFault, RelocationPlace, begins_in, relocation_place};
+
+/// The loaded object that has a number.
+pub fn referrer_at<'r, 'l, 'p, 'a>(
+    bindings: &'r Bindings<'l, 'p, 'a>,
+    k: usize,
+) -> Option<Referrer<'r, 'l, 'p, 'a>>
+    ensures bindings { IfSome result (λ here. here.bindings.now ≡ bindings.entry.now) }
+    ensures number { IfSome result (λ here. here.number ≡ k) }
+{
+    let loaded = bindings.objects().get(k)?;
+    let number = k as u64;
+    Some(Referrer {
+        bindings,
+        number,
+        loaded,
+    })
+}
+
+/// The place of a relocation of an object, where it is a kept one.
+pub fn place_at<'a>(
+    here: &Referrer<'_, '_, '_, 'a>,
+    relocation: &KeptRelocation,
+) -> Option<RelocationPlace<'a>>
+    ensures { IfSome result (IsKeptOf (objects_here here.now) here.now.number (object_here here.now)) }
+{
+    let one = here.loaded;
+    let (table, number) = (relocation.table as usize, relocation.number);
+    let header = one.object.sections().get(table)?;
+    if !one.is_kept_rela(table, &header) {
+        return None;
+    }
+    let entry = one.object.relas(table)?.get(number)?;
+    if !is_some_kind(&entry) {
+        return None;
+    }
+    Some(relocation_place(
+        here.number as usize,
+        &one.object,
+        table,
+        &header,
+        number,
+        &entry,
+    ))
+}
+
+/// The width of an entry's field in bytes; 0 for a type that is no kind.
+fn width_of(entry: &Rela) -> u64
+    ensures { result ≡ width_of_entry entry.now }
+{
+    match kind_of(entry.kind()) {
+        Some(kind) => kind.width as u64,
+        None => 0,
+    }
+}
+
+/// Whether byte `k` of a section lies in an entry's field.
+fn is_over(entry: &Rela, k: u64) -> bool
+    ensures { IsTrue result ↔ ((entry.now.r_offset ≤ k)
+        × (k < entry.now.r_offset + width_of_entry entry.now)) }
+{
+    entry.r_offset <= k && k - entry.r_offset < width_of(entry)
+}
+
+/// The first kept relocation of an object in whose field byte `k` of a section lies.
+fn relocation_over(one: &Loaded<'_>, section: u64, k: u64) -> Option<KeptRelocation> {
+    for relocation in one.relocations() {
+        if relocation.section as u64 == section && is_over(&relocation.entry, k) {
+            return Some(relocation);
+        }
+    }
+    None
+}
+
+/// The first kept relocation in whose field byte `k` of a section of an object of the link lies; None where it isn't asked for.
+pub fn field_place<'a>(
+    bound: &BoundLink<'_, 'a>,
+    object: u64,
+    section: u64,
+    k: u64,
+    asked: bool,
+) -> Option<RelocationPlace<'a>>
+    ensures { IfSome result (IsFieldOver (objects_of bound.now) object section k) }
+{
+    if !asked {
+        return None;
+    }
+    let here = referrer_at(bound.bindings(), object as usize)?;
+    let place = place_at(&here, &relocation_over(here.loaded, section, k)?)?;
+    if place.section as u64 != section {
+        return None;
+    }
+    if !is_over(&place.entry, k) {
+        return None;
+    }
+    Some(place)
+}
 
 /// What is wrong with an entry of a kind, but for its value.
 fn fault_with(kind: &Kind, target: &Target, to: &Relocated, entry: &Rela) -> Option<RelocationFault>
@@ -57,44 +158,69 @@ fn value_with(kind: &Kind, target: &Target, to: &Relocated, given: &LinkTerms, e
     value_of(kind.formula, entry.r_addend, terms)
 }
 
-/// What is wrong with a kept relocation of an object.
-fn wrong_place<'a>(referrer: &Referrer<'_, '_, 'a>, at: &EntryAt) -> Failure<'a>
-    ensures { IfSome result (FailsIn referrer.now.bound.now) }
+/// What is wrong with a kept relocation of an object, of a kind, given the terms of its value.
+fn wrong_with<'a>(
+    here: &Referrer<'_, '_, '_, 'a>,
+    place: &RelocationPlace<'a>,
+    kind: &Kind,
+    target: &Target,
+    to: &Relocated,
+    given: &LinkTerms,
+) -> Failure<'a>
+    requires at { IsKeptOf (objects_here here.now) here.now.number (object_here here.now) place.now }
+    requires kind { kind_of (rela_type place.now.entry) ≡ Some (kind_view kind.now) }
+    requires width { IsWidth kind.now.width }
+    requires section { to.now.section ≡ place.now.section }
+    requires terms { AreTerms here.now place.now.entry target.now to.now given.now }
+    ensures { (s : Subject) → here.now.bindings.now ≡ bound_of s → IfSome result (FailsIn s) }
 {
-    let place = place_at(referrer, at.table, at.number)?;
-    let bindings = referrer.bound.bindings();
-    let one = referrer.one;
-    let number = referrer.number as u64;
+    let _here = here;
+    let entry = &place.entry;
+    if let Some(fault) = fault_with(kind, target, to, entry) {
+        return Some(CheckPlace::Relocation(*place, fault));
+    }
+    let value = value_with(kind, target, to, given, entry);
+    if fits(kind.range, kind.width as u64, value) {
+        return None;
+    }
+    let address = to.address.wrapping_add(entry.r_offset);
+    Some(CheckPlace::Value(*place, value, address))
+}
+
+/// What is wrong with a kept relocation of an object.
+fn wrong_place<'a>(here: &Referrer<'_, '_, '_, 'a>, relocation: &KeptRelocation) -> Failure<'a>
+    ensures { (s : Subject) → here.now.bindings.now ≡ bound_of s → IfSome result (FailsIn s) }
+{
+    let place = place_at(here, relocation)?;
+    let (bindings, number, one) = (here.bindings, here.number, here.loaded);
     let entry = place.entry;
     let Some(kind) = kind_of(entry.kind()) else {
         return Some(CheckPlace::Relocation(place, RelocationFault::RelocKind));
     };
     let to = relocated(bindings, number, &one.object, place.section);
-    let symbol = entry.symbol() as usize;
-    let target = target_of_symbol(bindings, number, one, symbol);
+    let target = target_of_symbol(bindings, number, one, entry.symbol() as usize);
     let given = link_terms(bindings, number, one, &entry);
-    if let Some(fault) = fault_with(&kind, &target, &to, &entry) {
-        return Some(CheckPlace::Relocation(place, fault));
-    }
-    let value = value_with(&kind, &target, &to, &given, &entry);
-    if fits(kind.range, kind.width as u64, value) {
-        return None;
-    }
-    let address = to.address.wrapping_add(entry.r_offset);
-    Some(CheckPlace::Value(place, value, address))
+    wrong_with(here, &place, &kind, &target, &to, &given)
 }
 
 /// Two kept relocations of an object, where the field of the second one begins inside that of the first one, in a link whose
 /// relocations aren't right.
-fn overlap<'a>(referrer: &Referrer<'_, '_, 'a>, first: &EntryAt, second: &EntryAt) -> Failure<'a>
-    requires { ¬ AreRelocationsRight referrer.now.bound.now }
-    ensures { IfSome result (FailsIn referrer.now.bound.now) }
+fn overlap<'a>(
+    here: &Referrer<'_, '_, '_, 'a>,
+    first: &KeptRelocation,
+    second: &KeptRelocation,
+) -> Failure<'a>
+    ensures { (s : Subject) → here.now.bindings.now ≡ bound_of s → ¬ AreRelocationsRight s
+        → IfSome result (FailsIn s) }
 {
-    let first = place_at(referrer, first.table, first.number)?;
-    let second = place_at(referrer, second.table, second.number)?;
-    let width = width_of(&first.entry);
-    let second_width = width_of(&second.entry);
-    if !begins_in(&first, width, &second, second_width) {
+    let first = place_at(here, first)?;
+    let second = place_at(here, second)?;
+    if !begins_in(
+        &first,
+        width_of(&first.entry),
+        &second,
+        width_of(&second.entry),
+    ) {
         return None;
     }
     Some(CheckPlace::Overlap(first, second))
@@ -102,40 +228,38 @@ fn overlap<'a>(referrer: &Referrer<'_, '_, 'a>, first: &EntryAt, second: &EntryA
 
 /// Adds what is wrong with kept relocations of an object, and neighbours in the order of their sections and fields that share a
 /// byte.
-fn add_entries<'a>(
+fn add_object<'a>(
     found: &mut Found<'a>,
-    referrer: &Referrer<'_, '_, 'a>,
-    mut entries: Vec<EntryAt>,
+    bound: &BoundLink<'_, 'a>,
+    here: &Referrer<'_, '_, '_, 'a>,
 ) -> Added
-    requires fails { ¬ AreRelocationsRight referrer.now.bound.now }
-    requires before { AreFailures referrer.now.bound.now found.old.places.items }
-    ensures { OnOk result (AreFailures referrer.now.bound.now found.new.places.items) }
+    requires here { here.now.bindings.now ≡ bound_of bound.now }
+    requires fails { ¬ AreRelocationsRight bound.now }
+    requires before { AreFailures bound.now found.old.places.items }
+    ensures { OnOk result (AreFailures bound.now found.new.places.items) }
 {
-    for at in &entries {
-        found.add_some(wrong_place(referrer, at))?;
+    let mut relocations = Vec::new(found.alloc);
+    for relocation in here.loaded.relocations() {
+        found.add_some(wrong_place(here, &relocation))?;
+        relocations.push(relocation)?;
     }
-    entries.sort_by_key(|at| (at.section, at.entry.r_offset))?;
-    for i in 1..entries.len() {
-        found.add_some(overlap(referrer, &entries[i - 1], &entries[i]))?;
+    relocations.sort_by_key(|r| (r.section, r.entry.r_offset))?;
+    for i in 1..relocations.len() {
+        found.add_some(overlap(here, &relocations[i - 1], &relocations[i]))?;
     }
     Ok(())
 }
 
 /// Adds the kept relocations of a link that aren't lawful or whose values don't fit: where its ninth clause fails.
-pub fn add_c9<'a>(alloc: Global, found: &mut Found<'a>, bound: &BoundLink<'_, 'a>) -> Added
+pub fn add_c9<'a>(found: &mut Found<'a>, bound: &BoundLink<'_, 'a>) -> Added
     requires fails { ¬ AreRelocationsRight bound.now }
     requires before { AreFailures bound.now found.old.places.items }
     ensures { OnOk result (AreFailures bound.now found.new.places.items) }
 {
-    let objects = bound.bindings().objects();
-    for number in 0..objects.len() {
-        let Some(one) = object_at(objects, number) else {
-            continue;
-        };
-        let mut entries = Vec::new(alloc);
-        list_entries(&mut entries, one, number)?;
-        let referrer = Referrer { bound, number, one };
-        add_entries(found, &referrer, entries)?;
+    for number in 0..bound.bindings().objects().len() {
+        if let Some(here) = referrer_at(bound.bindings(), number) {
+            add_object(found, bound, &here)?;
+        }
     }
     Ok(())
 }

@@ -1,15 +1,14 @@
 //! How a place of a failed check reads: a line that says what is there, and what should be.
 
 use crate::found::kind_of;
-use crate::map_text::write_line;
 use crate::memory_text::{
-    write_byte, write_fill, write_got, write_number, write_relocation, write_table_byte,
-    write_thread,
+    write_byte, write_end, write_got, write_number, write_relocation, write_thread,
 };
-use crate::place::{CheckPlace, Part};
+use crate::place::{CheckPlace, LineKey, Part};
 use check_link::{Link, Placed, base_of, entry_of};
-use elf_model::Clause;
+use elf_model::{Clause, ProgramHeader};
 use input_names::{Name, ObjectName};
+use linkmap::{Line, put_line};
 use std::alloc::Global;
 use std::io::Write;
 use std::{fmt, io};
@@ -36,37 +35,28 @@ impl fmt::Display for ObjectText<'_> {
 }
 
 /// What a piece is: a section, which reads as its object, its number and its name, or a common block, which is numbered like one
-/// of an object more than there are, and has the name that the map has at its address, with its size.
+/// of an object more than there are, and has the name that the map has at its address, with its size; the GOT where there is none.
 #[derive(Clone, Copy)]
-pub struct PieceText<'l>(pub &'l Link<'l>, pub &'l Placed<'l>);
+pub struct PieceText<'l>(pub &'l Link<'l>, pub Option<Placed<'l>>);
 
 impl fmt::Display for PieceText<'_> {
     fn fmt<W: fmt::Write>(&self, f: &mut fmt::Formatter<W>) -> fmt::Result {
-        let (link, at, piece) = (self.0, self.1.at, &self.1.piece);
+        let PieceText(link, Some(placed)) = *self else {
+            return f.write_str("the GOT");
+        };
+        let (at, piece) = (placed.at, &placed.piece);
         if (piece.object as usize) < link.map.objects.len() {
             let (object, name) = (ObjectText(link, piece.object), Name(piece.name));
             return write!(f, "{object}: section {} {name}", piece.section);
         }
-        f.write_str("common block ")?;
         let size = piece.header.sh_size;
         let mut lines = link.map.commons.iter();
-        match lines.find(|line| line.address == at && line.size == size) {
-            Some(line) => write!(f, "{}", Name(&line.name)),
-            None => Ok(()),
-        }
-    }
-}
-
-/// A piece; the GOT where there is none.
-#[derive(Clone, Copy)]
-pub struct PieceOrGot<'l>(pub &'l Link<'l>, pub &'l Option<Placed<'l>>);
-
-impl fmt::Display for PieceOrGot<'_> {
-    fn fmt<W: fmt::Write>(&self, f: &mut fmt::Formatter<W>) -> fmt::Result {
-        match self.1 {
-            Some(placed) => write!(f, "{}", PieceText(self.0, placed)),
-            None => f.write_str("the GOT"),
-        }
+        let line = lines.find(|line| line.address == at && line.size == size);
+        write!(
+            f,
+            "common block {}",
+            Name(line.map_or(&[], |line| &line.name))
+        )
     }
 }
 
@@ -76,9 +66,9 @@ struct PartText<'l>(&'l Link<'l>, &'l Part<'l>);
 
 impl fmt::Display for PartText<'_> {
     fn fmt<W: fmt::Write>(&self, f: &mut fmt::Formatter<W>) -> fmt::Result {
-        match &self.1.piece {
-            None if self.1.number == 0 => f.write_str("the headers"),
-            piece => write!(f, "{}", PieceOrGot(self.0, piece)),
+        match self.1.number {
+            0 => f.write_str("the headers"),
+            _ => write!(f, "{}", PieceText(self.0, self.1.piece)),
         }?;
         let thing = &self.1.thing;
         write!(f, " at {:#x}, {:#x} bytes", thing.at, thing.size)
@@ -95,6 +85,80 @@ pub fn rights_text(rights: u64) -> &'static str {
     }
 }
 
+/// The line of a map's text that has a number, from 0, among those that begin with a word: its number among all, from 1, and
+/// its text.
+pub fn line_in<'t>(text: &'t [u8], word: &str, k: u64) -> Option<(usize, &'t [u8])> {
+    let mut before: u64 = 0;
+    for (i, line) in text.split(|byte| *byte == b'\n').enumerate() {
+        if !line.starts_with(word.as_bytes()) {
+            continue;
+        }
+        if before == k {
+            return Some((i.saturating_add(1), line));
+        }
+        before = before.saturating_add(1);
+    }
+    None
+}
+
+/// Of the lines that a key is of: the word with which they begin, the number of the one that the map has, if it has one, from 0
+/// among these, and why it should have none.
+fn kind_of_line(link: &Link<'_>, key: &LineKey<'_>) -> (&'static str, Option<u64>, &'static str) {
+    let (commons, symbols) = (&link.map.commons, &link.map.symbols);
+    match key {
+        LineKey::Object(k) => ("object ", Some(*k), "no more objects are loaded"),
+        LineKey::Drop(k) => ("drop ", Some(*k), "no more sections are dropped"),
+        LineKey::Place(k) => ("place ", Some(*k), "no more sections are kept"),
+        LineKey::Common(name) => {
+            let number = commons
+                .iter()
+                .position(|line| line.name.as_slice() == *name);
+            (
+                "common ",
+                number.map(|k| k as u64),
+                "the name has no common block",
+            )
+        }
+        LineKey::Symbol(name) => {
+            let number = symbols
+                .iter()
+                .position(|line| line.name.as_slice() == *name);
+            ("symbol ", number.map(|k| k as u64), "the name has no line")
+        }
+    }
+}
+
+/// Writes a line of a map with this text that is another one than it should be, or that should be there or shouldn't.
+fn write_line<W: Write>(
+    alloc: Global,
+    out: &mut W,
+    link: &Link<'_>,
+    text: &[u8],
+    key: &LineKey<'_>,
+    wanted: &Option<Line<'_>>,
+) -> Told {
+    let (word, number, reason) = kind_of_line(link, key);
+    let mut lead = "the map lacks: ";
+    if let Some((number, line)) = number.and_then(|k| line_in(text, word, k)) {
+        write!(out, "line {number} of the map: ")?;
+        out.write_all(line)?;
+        out.write_all(b": ")?;
+        lead = "should be ";
+    }
+    let Some(line) = wanted else {
+        return out.write_all(reason.as_bytes());
+    };
+    let mut spelled = Vec::new(alloc);
+    put_line(&mut spelled, line)?;
+    spelled.pop();
+    out.write_all(lead.as_bytes())?;
+    out.write_all(&spelled)?;
+    match key {
+        LineKey::Place(_) | LineKey::Common(_) => out.write_all(b", at any address"),
+        _ => Ok(()),
+    }
+}
+
 fn write_entry<W: Write>(out: &mut W, link: &Link<'_>, e_entry: u64, value: Option<u64>) -> Told {
     write!(out, "the entry {} ", Name(entry_of(&link.plan)))?;
     match value {
@@ -103,48 +167,67 @@ fn write_entry<W: Write>(out: &mut W, link: &Link<'_>, e_entry: u64, value: Opti
     }
 }
 
+/// Writes that a section isn't close after another one.
+fn write_far<'p, W: Write>(
+    out: &mut W,
+    link: &Link<'p>,
+    first: &Placed<'p>,
+    second: &Placed<'p>,
+) -> Told {
+    let (section, align) = (
+        PieceText(link, Some(*second)),
+        second.piece.header.sh_addralign,
+    );
+    write!(
+        out,
+        "{section} at {:#x}, aligned to {align}: not close ",
+        second.at
+    )?;
+    let (section, size) = (PieceText(link, Some(*first)), first.piece.header.sh_size);
+    write!(out, "after {section} at {:#x}, {size:#x} bytes", first.at)
+}
+
+/// Writes the rights of the segment that a part lies in, and those that it should have.
+fn write_rights<W: Write>(out: &mut W, part: &Part<'_>, segment: &Option<ProgramHeader>) -> Told {
+    let wanted = rights_text(part.thing.rights);
+    match segment {
+        Some(h) => {
+            let rights = rights_text(u64::from(h.p_flags));
+            write!(out, "in a segment with {rights}, and not {wanted}")
+        }
+        None => write!(
+            out,
+            "whole in no segment, and should be in one with {wanted}"
+        ),
+    }
+}
+
 /// Writes a place of the fifth or the sixth clause.
 fn write_placement<W: Write>(out: &mut W, link: &Link<'_>, place: &CheckPlace<'_>) -> Told {
+    let base = base_of(&link.plan);
     match place {
         CheckPlace::Unaligned(part) => {
             let (text, align) = (PartText(link, part), part.thing.align);
             write!(out, "{text}: not aligned to {align}")
         }
         CheckPlace::Outside(part) => {
-            let (text, base) = (PartText(link, part), base_of(&link.plan));
+            let text = PartText(link, part);
             write!(out, "{text}: not from the base {base:#x} on and below 2^46")
         }
         CheckPlace::Shared(first, second) => {
             let (first, second) = (PartText(link, first), PartText(link, second));
             write!(out, "{first}: shares addresses with {second}")
         }
-        CheckPlace::Far(first, second) => {
-            let (section, align) = (PieceText(link, second), second.piece.header.sh_addralign);
-            write!(
-                out,
-                "{section} at {:#x}, aligned to {align}: not close ",
-                second.at
-            )?;
-            let (section, size) = (PieceText(link, first), first.piece.header.sh_size);
-            write!(out, "after {section} at {:#x}, {size:#x} bytes", first.at)
-        }
+        CheckPlace::Far(first, second) => write_far(out, link, first, second),
         CheckPlace::Unheld(part, segment) => {
-            let (text, wanted) = (PartText(link, part), rights_text(part.thing.rights));
-            match segment {
-                Some(h) => {
-                    let rights = rights_text(u64::from(h.p_flags));
-                    write!(out, "{text}: in a segment with {rights}, and not {wanted}")
-                }
-                None => {
-                    write!(out, "{text}: whole in no segment, and should be in one ")?;
-                    write!(out, "with {wanted}")
-                }
-            }
+            write!(out, "{}: ", PartText(link, part))?;
+            write_rights(out, part, segment)
         }
         CheckPlace::First(address) => {
-            let base = base_of(&link.plan);
-            write!(out, "the first segment begins at {address:#x}, and ")?;
-            write!(out, "not at the base {base:#x}")
+            write!(
+                out,
+                "the first segment begins at {address:#x}, and not at the base {base:#x}"
+            )
         }
         _ => Ok(()),
     }
@@ -167,10 +250,12 @@ pub fn write_check_place<W: Write>(
         CheckPlace::Line(key, wanted) => write_line(alloc, out, link, map, key, wanted),
         CheckPlace::Entry(e_entry, value) => write_entry(out, link, *e_entry, *value),
         CheckPlace::Number(name, there, wanted) => {
-            write_number(out, link, *name, (*there, *wanted))
+            write_number(out, link, map, *name, (*there, *wanted))
         }
-        CheckPlace::Byte(place) => write_byte(out, link, place),
-        CheckPlace::TableByte(place) => write_table_byte(out, place),
+        CheckPlace::Byte(of, byte) => write_byte(out, link, of, byte),
+        CheckPlace::SegmentEnd(number, header, in_file, end) => {
+            write_end(out, *number, header, *in_file, *end)
+        }
         CheckPlace::Symtab(true) => {
             out.write_all(b"the map has a symtab line, and -s is among the words")
         }
@@ -178,10 +263,9 @@ pub fn write_check_place<W: Write>(
             out.write_all(b"the map has no symtab line, and -s is not among the words")
         }
         _ => match kind_of(place) {
-            Clause::C7 => write_got(out, link, place),
+            Clause::C7 => write_got(out, link, map, place),
             Clause::C8 => write_thread(out, link, place),
             Clause::C9 => write_relocation(out, link, place),
-            Clause::C11 => write_fill(out, place),
             _ => write_placement(out, link, place),
         },
     }

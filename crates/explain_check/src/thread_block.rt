@@ -1,35 +1,24 @@
 //! C8: the block of thread-local storage that isn't as the placed pieces ask for it.
-ghost use Rattle.std.specs.Prelude.{◌≡◌, IfSome, OnOk, Some, false};
+ghost use Rattle.std.specs.Prelude.{◌≡◌, ◌↔◌, IfSome, IsTrue, OnOk, Some};
 ghost use Rattle.std.specs.List.{slice_get};
 ghost use Rattle.elf_model.specs.Image.MemoryImage.{thread_blocks};
 ghost use Rattle.elf_model.specs.Image.RightLink.{HoldsBefore, placed_of, thread_data_end};
-ghost use Rattle.elf_model.specs.Link.ThreadStorage.{thread_headers};
 ghost use Rattle.elf_model.specs.declared.verdict.Clause.TheVariants as clause;
 ghost use Rattle.check_link.specs.PieceParts.{AreInLimit, IsGotInLimit, IsInLimit};
-ghost use Rattle.check_link.specs.Views.{placed_view, placed_views};
-ghost use Rattle.explain_check.specs.PlacementPlaces.{IsInnerPiece};
+ghost use Rattle.check_link.specs.Views.{placed_view};
+ghost use Rattle.checker.specs.ThreadBlock.{BeginsAfter, IsPlaceClear};
 ghost use Rattle.explain_check.specs.Places.{AreFailures, FailsIn};
 
-use crate::bytes::piece_at;
+use crate::bytes::{at, piece_at};
 use crate::found::{Added, Found};
 use crate::place::{CheckPlace, Failure};
-use check_link::{
-    Part, Placed, base_of, end_of, got_thing, is_thread_zero, thing_of_placed, thread_block,
-};
+use check_link::{Part, Placed, base_of, end_of};
 use checker::BoundLink;
-use checker::c08_thread_block::{are_headers_right, header_of, holds_initial, is_clear_of};
+use checker::c08_thread_block::{
+    are_headers_right, begins_after, holds_initial, is_got_clear_of, is_place_clear_of,
+    wanted_header,
+};
 use elf_model::ProgramHeader;
-
-/// The PT_TLS header that placed pieces ask for, in an image that begins at the base; None without thread-local ones.
-fn wanted_header(base: u64, placed: &[Placed<'_>]) -> Option<ProgramHeader>
-    requires { AreInLimit (placed_views placed.now) }
-    ensures { result ≡ slice_get (thread_headers base (placed_views placed.now)) 0 }
-{
-    match thread_block(placed) {
-        Some(block) => Some(header_of(base, placed, &block)),
-        None => None,
-    }
-}
 
 /// The PT_TLS header that is there and the wanted one, where they differ.
 fn wrong_header<'a>(bound: &BoundLink<'_, 'a>) -> Failure<'a>
@@ -42,7 +31,7 @@ fn wrong_header<'a>(bound: &BoundLink<'_, 'a>) -> Failure<'a>
         return None;
     }
     let wanted = wanted_header(base, bound.placed());
-    Some(CheckPlace::ThreadHeader(headers.get(0).copied(), wanted))
+    Some(CheckPlace::ThreadHeader(at(headers, 0), wanted))
 }
 
 /// The PT_TLS header of the image.
@@ -59,23 +48,22 @@ fn inner_got<'a>(bound: &BoundLink<'_, 'a>, end: u64) -> Failure<'a>
     ensures { IfSome result (FailsIn bound.now) }
 {
     let start = header_there(bound)?.p_vaddr;
-    let got = bound.link().map.got?;
-    if is_clear_of(start, end, &got_thing(got)) {
+    let got = &bound.link().map.got;
+    if is_got_clear_of(start, end, got) {
         return None;
     }
-    Some(CheckPlace::InThreadBlock(None, got.address, start, end))
+    let at = bound.bindings().got_start();
+    Some(CheckPlace::InThreadBlock(None, at, start, end))
 }
 
 /// Whether a piece that isn't thread-local has no address from `start` on and below `end`, and one of thread-local zeros
 /// begins there or later.
 fn is_out_of(start: u64, end: u64, placed: &Placed<'_>) -> bool
     requires { IsInLimit (placed_view placed.now) }
-    ensures { result ≡ false → IsInnerPiece start end (placed_view placed.now) }
+    ensures { IsTrue result ↔ (BeginsAfter end (placed_view placed.now)
+        × IsPlaceClear start end (placed_view placed.now)) }
 {
-    if placed.piece.header.is_thread_local() {
-        return !is_thread_zero(&placed.piece) || end <= placed.at;
-    }
-    is_clear_of(start, end, &thing_of_placed(placed))
+    begins_after(end, placed) && is_place_clear_of(start, end, placed)
 }
 
 /// The piece that has a number, where it stands among the block's initial bytes, or before their end if it has none.

@@ -1,8 +1,11 @@
 //! Whether each piece stands close behind the one before it in its output section: a part of the fifth clause.
-ghost use Rattle.std.specs.Prelude.{◌≡◌, ◌<◌, ◌↔◌, IfOk, IfSome, IsTrue, None, OnOk, length, slice_index_or};
+ghost use Rattle.std.specs.Prelude.{◌≡◌, ◌<◌, ◌↔◌, All, IfOk, IfSome, IsTrue, None, OnOk, length, option_map, slice_index_or};
 ghost use Rattle.std.specs.BTreeMap.{get};
+ghost use Rattle.std.specs.List.{slice_get};
 ghost use Rattle.std.specs.Option.{option_or};
-ghost use Rattle.elf_model.specs.Link.Placement.{IsNear};
+ghost use Rattle.elf_model.specs.Link.Placement as placement;
+ghost use Rattle.elf_model.specs.Link.Placement.{IsNear, IsNext};
+ghost use Rattle.check_places.specs.Far.{AreFar};
 ghost use Rattle.check_places.specs.Neighbours.{AreNear, last_at, last_known, over_last};
 ghost use Rattle.check_link.specs.OutputSections.{section_order};
 ghost use Rattle.check_link.specs.Views.{placed_view, placed_views};
@@ -132,4 +135,46 @@ pub fn are_near(alloc: Global, placed: &[Placed<'_>]) -> Result<bool, AllocError
         }
     }
     Ok(true)
+}
+
+/// The piece that has a number.
+fn piece_at<'a>(placed: &[Placed<'a>], k: usize) -> Option<Placed<'a>>
+    ensures { slice_get (placed_views placed.now) k ≡ option_map placed_view result }
+{
+    placed.get(k).copied()
+}
+
+/// The last piece of an output section, if there is one, and the next one of it, by their numbers, where they aren't near.
+fn far_pair<'a>(
+    placed: &[Placed<'a>],
+    last: Option<usize>,
+    next: usize,
+) -> Option<(Placed<'a>, Placed<'a>)>
+    requires { IfSome last (λ i. (d : placement.Placed) → IsNext (placed_views placed.now) i next d) }
+    ensures { IfSome result (λ p. AreFar (placed_views placed.now) p.0 p.1) }
+{
+    let first = piece_at(placed, last?)?;
+    let second = piece_at(placed, next)?;
+    if is_near(&first, &second) {
+        return None;
+    }
+    Some((first, second))
+}
+
+/// The pieces that aren't near the one before them in their output section, each behind that one.
+pub fn far_pairs<'a>(
+    alloc: Global,
+    placed: &[Placed<'a>],
+) -> Result<Vec<(Placed<'a>, Placed<'a>)>, AllocError>
+    ensures { IfOk result (λ v. All (λ p. AreFar (placed_views placed.now) p.0 p.1) v.items) }
+{
+    let mut lasts = Lasts::new(alloc);
+    let mut pairs = Vec::new(alloc);
+    for (j, next) in placed.iter().enumerate() {
+        let last = lasts.replace(&output_section(&next.piece), j)?;
+        if let Some(pair) = far_pair(placed, last, j) {
+            pairs.push(pair)?;
+        }
+    }
+    Ok(pairs)
 }

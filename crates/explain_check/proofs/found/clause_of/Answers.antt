@@ -5,5 +5,5 @@ use Rattle.explain_check.proofs.Denials.{denies}
 use Rattle.explain_check.proofs.found.clause_of.Goals as goal
 
 pub returns-clause-fails : goal.returns-clause-fails
-returns-clause-fails c = λ s is_map h right.
-    denies s c.args.place.now is_map h (subst (λ (x : Clause). Holds x s) c.kind_of.ensures right)
+returns-clause-fails c = λ s h right.
+    denies s c.args.place.now h (subst (λ (x : Clause). Holds x s) c.kind_of.ensures right)

@@ -2,7 +2,7 @@ use Rattle.explain_check.specs.Places.{AreFailures}
 use Rattle.explain_check.proofs.placement.add_parts.Given as goal
 
 abbrev pub invariant-loop-k : goal.invariant-loop-k
-invariant-loop-k l = AreFailures l.parts.placed.now l.found.places.items
+invariant-loop-k l = AreFailures l.placed l.found.places.items
 
 abbrev pub invariant-loop-i : goal.invariant-loop-i
-invariant-loop-i l = AreFailures l.parts.placed.now l.found.places.items
+invariant-loop-i l = AreFailures l.placed l.found.places.items

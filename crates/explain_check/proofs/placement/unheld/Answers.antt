@@ -8,9 +8,9 @@ pub returns : goal.returns
 returns c =
     let t = c.in_ok-part.part.thing in
     let segment = c.segment_of-segment in
-    let image = c.memory-memory.ensures in record {
+    let image = c.memory.ensures in record {
       part = c.in_ok-part.ensures.part;
-      thing = c.in_ok-part.ensures.thing;
+      thing = c.in_ok-part.ensures.list;
       must_lie = c.is_held.ensures.must c.if-is_held.false;
       held = subst (λ (m : List ℕ). IfSome segment.result (λ h. Contains (loads m) h × Encloses h t.at t.size)) image segment.ensures.some;
       nowhere = subst (λ (m : List ℕ). IfNone segment.result (All (λ h. ¬ Encloses h t.at t.size) (loads m))) image segment.ensures.none;
