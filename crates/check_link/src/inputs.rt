@@ -4,7 +4,7 @@ ghost use Rattle.elf_model.specs.Inputs.Command as command;
 ghost use Rattle.elf_model.specs.Inputs.Command.{command_of};
 ghost use Rattle.elf_model.specs.Inputs.Files.{words_of};
 ghost use Rattle.elf_model.specs.Image.MapRecord.{MapRecord};
-ghost use Rattle.linkmap.specs.Borrowed.{record_of};
+ghost use Rattle.linkmap.specs.Record.{record_of};
 ghost use Rattle.elf_model.specs.Image.MapText.{IsMap, text};
 
 use command::{CmdFault, Plan, read_words};

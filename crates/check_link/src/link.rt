@@ -17,7 +17,7 @@ pub struct Link<'a> {
 
 impl<'a> Model for Link<'a> {
     ghost use Rattle.elf_model.specs.Inputs.Files.{files_of};
-    ghost use Rattle.linkmap.specs.Borrowed.{record_of};
+    ghost use Rattle.linkmap.specs.Record.{record_of};
     ghost use Rattle.elf_model.specs.Image.MapText.{IsMap};
     ghost use Rattle.elf_model.specs.Image.RightLink.{Subject};
 

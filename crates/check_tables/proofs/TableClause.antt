@@ -1,11 +1,9 @@
 -- The fourteenth clause, from the bytes after the last file part and the fields of the file header.
-use Rattle.std.proofs.Common.{◌≡◌, ℕ, ◌-◌, ◌<◌, ◌^◌, Bool, not, List, ◌++◌, Option, None, length, drop, map, replicate, refl, sym, ◌∙◌, ap, subst}
+use Rattle.std.proofs.Common.{◌≡◌, ℕ, ◌-◌, ◌<◌, ◌^◌, Bool, not, List, ◌++◌, Option, None, length, drop, replicate, refl, sym, ◌∙◌, ap, subst}
 use Rattle.std.specs.List.{flat_map}
 use Rattle.std.specs.Prelude.{All, IfSome, IsTrue, is_some}
-use Rattle.elf_model.proofs.Listed.{All-unmap}
 use Rattle.elf_model.proofs.Rests.{Left}
 use Rattle.elf_model.specs.Image.MapRecord.{SymbolRow}
-use Rattle.linkmap.specs.Borrowed.{symbol_row}
 use Rattle.elf_model.specs.Image.MapText.{Ascends, SymbolBefore}
 use Rattle.elf_model.specs.Link.Meaning.{Meaning}
 use Rattle.elf_model.specs.Image.MemoryImage.{HasNoSections, file_end, loads}
@@ -13,7 +11,6 @@ use Rattle.elf_model.specs.Link.Placement.{Where, round_up}
 use Rattle.elf_model.specs.Inputs.Records.{file_header, section_header_bytes}
 use Rattle.elf_model.specs.Image.RightLink.{AreSymbolsListed, AreTablesRight, HoldsTables, Subject, objects_of, tabled_of, where_of}
 use Rattle.elf_model.specs.Image.SymbolTable.{entry_count, headers_at, name_section, section_names, symbol_section, tabled, shstrtab_end, symtab_at, table_headers}
-use Rattle.linkmap.specs.declared.borrowed.BorrowedSymbol.{BorrowedSymbol}
 use Rattle.elf_model.specs.declared.link_map.SymtabLine.{SymtabLine}
 use Rattle.elf_model.specs.declared.records.FileHeader.{FileHeader}
 use Rattle.check_relocs.specs.Bindings.{Bound, bound_of}
@@ -154,9 +151,8 @@ none_right s header t none asked eh same = (
 
 -- each line of the map is that of what its name means
 pub lines_are :
-    (s : Subject) (b : Bound) (lines : List BorrowedSymbol) → b ≡ bound_of s → map symbol_row lines ≡ s.map.symbols →
-    Ascends SymbolBefore s.map.symbols → AreSymbolsListed s → All (λ line. IsLine b.objects b.places (symbol_row line)) lines
-lines_are s b lines eb er ascend listed =
-    All-unmap (IsLine b.objects b.places) symbol_row lines
-    (subst (λ (x : Bound). All (IsLine x.objects x.places) (map symbol_row lines)) (sym eb)
-    (subst (All (IsLine (objects_of s) (where_of s))) (sym er) (each_line (objects_of s) (where_of s) s.map.symbols ascend listed.lines)))
+    (s : Subject) (b : Bound) (rows : List SymbolRow) → b ≡ bound_of s → rows ≡ s.map.symbols →
+    Ascends SymbolBefore s.map.symbols → AreSymbolsListed s → All (IsLine b.objects b.places) rows
+lines_are s b rows eb er ascend listed =
+    subst (λ (x : Bound). All (IsLine x.objects x.places) rows) (sym eb)
+    (subst (All (IsLine (objects_of s) (where_of s))) (sym er) (each_line (objects_of s) (where_of s) s.map.symbols ascend listed.lines))

@@ -1,19 +1,15 @@
 -- What is left of a symbol table after the definitions of lines.
-use Rattle.std.proofs.Common.{◌≡◌, ℕ, ◌+◌, ◌<◌, ◌≤◌, ◌^◌, List, [], ◌∷◌, ◌++◌, Option, Some, None, length, get_or, drop, map, refl, sym, ◌∙◌, ap, arith, subst}
+use Rattle.std.proofs.Common.{◌≡◌, ℕ, ◌+◌, ◌<◌, ◌^◌, List, [], ◌∷◌, ◌++◌, Option, Some, None, length, refl, sym, ◌∙◌, ap, arith, subst}
 use Rattle.std.specs.Prelude.{IfSome}
-use Rattle.std.proofs.lemmas.List.{append_assoc, drop_all, length-append}
-use Rattle.elf_model.proofs.Rests.{Left, rest_at}
+use Rattle.std.proofs.lemmas.List.{append_assoc, length-append}
+use Rattle.elf_model.proofs.Rests.{Left}
 use Rattle.elf_model.specs.Link.Loading.{LoadedObject}
-use Rattle.linkmap.specs.Borrowed.{symbol_row}
+use Rattle.elf_model.specs.Image.MapRecord.{SymbolRow}
 use Rattle.elf_model.specs.Link.Meaning.{Meaning, meaning_name}
 use Rattle.elf_model.specs.Link.Placement.{Where}
 use Rattle.elf_model.specs.Image.SymbolTable.{ended, name_section, tabled}
-use Rattle.linkmap.specs.declared.borrowed.BorrowedSymbol.{BorrowedSymbol}
 use Rattle.check_tables.specs.Tabled.{AreLeft, ended_names}
 use Rattle.check_tables.proofs.TableEntries.{tabled_more}
-
-abbrev pub line_tabled : List LoadedObject → List BorrowedSymbol → List Meaning
-line_tabled objects lines = tabled objects (map symbol_row lines)
 
 -- the bytes of the name of one definition
 pub one_name : (ds : List Meaning) (m : Meaning) (name : List ℕ) → ds ≡ m ∷ [] → meaning_name m ≡ name → length (ended_names ds) ≡ length name + 1
@@ -28,25 +24,20 @@ names_append [] ms = refl
 names_append (d ∷ ds) ms =
     ap (λ (xs : List ℕ). ended (meaning_name d) ++ xs) (names_append ds ms) ∙ sym (append_assoc (ended (meaning_name d)) (ended_names ds) (ended_names ms))
 
-module _
-    (objects : List LoadedObject) (lines : List BorrowedSymbol) (i : ℕ) (x : BorrowedSymbol) (within : i < length lines) (is : x ≡ get_or lines i x)
-  where
-    abbrev pub here : List Meaning
-    here = tabled objects (symbol_row x ∷ [])
+module _ (objects : List LoadedObject) (lines : List SymbolRow) (line : SymbolRow) (rest : List SymbolRow) (e : lines ≡ line ∷ rest) where
+  abbrev pub here : List Meaning
+  here = tabled objects (line ∷ [])
 
-    abbrev pub later : List Meaning
-    later = line_tabled objects (drop (i + 1) lines)
+  abbrev pub later : List Meaning
+  later = tabled objects rest
 
-    pub lines_split : line_tabled objects (drop i lines) ≡ here ++ later
-    lines_split =
-        ap (line_tabled objects) (rest_at lines i x within)
-        ∙ (ap (λ (y : BorrowedSymbol). tabled objects (symbol_row y ∷ map symbol_row (drop (i + 1) lines))) (sym is)
-        ∙ tabled_more objects (symbol_row x) (map symbol_row (drop (i + 1) lines)))
+  pub lines_split : tabled objects lines ≡ here ++ later
+  lines_split = ap (tabled objects) e ∙ tabled_more objects line rest
 
-    pub names_split : length (ended_names (line_tabled objects (drop i lines))) ≡ length (ended_names here) + length (ended_names later)
-    names_split =
-        ap (λ (ms : List Meaning). length (ended_names ms)) lines_split
-        ∙ (ap length (names_append here later) ∙ length-append (ended_names here) (ended_names later))
+  pub names_split : length (ended_names (tabled objects lines)) ≡ length (ended_names here) + length (ended_names later)
+  names_split =
+      ap (λ (ms : List Meaning). length (ended_names ms)) lines_split
+      ∙ (ap length (names_append here later) ∙ length-append (ended_names here) (ended_names later))
 
 -- a claim on what is left, with the definitions that are next, as one on what is left after them
 pub left_step :
@@ -60,11 +51,11 @@ left_step Q P w entries names name_at ms ds es others q e p = (
 
 -- and after the last, where no entries are left or some are
 module _
-    (Q : Type 0) (w : Where) (objects : List LoadedObject) (lines : List BorrowedSymbol) (i : ℕ) (past : length lines ≤ i)
-    (entries names : List ℕ) (name_at : ℕ) (others : List ℕ) (q : Left Q (AreLeft w entries names name_at (line_tabled objects (drop i lines)) others))
+    (Q : Type 0) (w : Where) (objects : List LoadedObject) (lines : List SymbolRow) (past : lines ≡ [])
+    (entries names : List ℕ) (name_at : ℕ) (others : List ℕ) (q : Left Q (AreLeft w entries names name_at (tabled objects lines) others))
   where
-    none_after : line_tabled objects (drop i lines) ≡ []
-    none_after = ap (line_tabled objects) (drop_all i lines past)
+    none_after : tabled objects lines ≡ []
+    none_after = ap (tabled objects) past
 
     pub left_end : entries ≡ [] → name_at < 2 ^ 32 → Left Q (names ≡ others)
     left_end none fits = (
@@ -77,9 +68,8 @@ module _
     pub left_over : (entries ≡ [] → ⊥) → Q → ⊥
     left_over some a = some (subst (λ (xs : List Meaning). AreLeft w entries names name_at xs others) none_after (q.0 a)).entries_are
 
-pub names_end :
-    (objects : List LoadedObject) (lines : List BorrowedSymbol) (i : ℕ) → length lines ≤ i → length (ended_names (line_tabled objects (drop i lines))) ≡ 0
-names_end objects lines i past = ap (λ (ys : List BorrowedSymbol). length (ended_names (line_tabled objects ys))) (drop_all i lines past)
+pub names_end : (objects : List LoadedObject) (lines : List SymbolRow) → lines ≡ [] → length (ended_names (tabled objects lines)) ≡ 0
+names_end objects lines past = ap (λ (ys : List SymbolRow). length (ended_names (tabled objects ys))) past
 
 -- the offset after the last name, from the first NUL on
 pub end_of_names :

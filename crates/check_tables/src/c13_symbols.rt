@@ -24,7 +24,7 @@ use check_link::{Definitions, Meaning, SymbolOf};
 use check_relocs::{Bindings, linker_lines, used_names};
 use check_stages::BoundLink;
 use elf_model::{Definition, STB_WEAK};
-use linkmap::{BorrowedSymbol, Line};
+use linkmap::{BorrowedSymbol, Line, SymbolLines};
 use std::alloc::{AllocError, Global};
 use std::collections::BTreeSet;
 
@@ -288,7 +288,7 @@ fn is_line_of(
     ensures { IsTrue result ↔ (symbol_row line.now
         ≡ symbol_row_of bindings.now.places (meaning_view meaning.now)) }
 {
-    if line.name.as_slice() != name_of(meaning) {
+    if line.name != name_of(meaning) {
         return false;
     }
     if !names_definition(line.definition, meaning) {
@@ -298,20 +298,25 @@ fn is_line_of(
 }
 
 /// The first line of a name.
-fn line_named<'m>(lines: &'m [BorrowedSymbol<'m>], name: &[u8]) -> Option<&'m BorrowedSymbol<'m>>
-    ensures { option_copied result
-        ≡ find (λ line. bytes_eq (symbol_row line).name name.now) lines.entry.now }
+fn line_named<'m>(lines: &'m SymbolLines<'_>, name: &[u8]) -> Option<BorrowedSymbol<'m>>
+    ensures { option_map symbol_row result
+        ≡ find (λ line. bytes_eq line.name name.now) lines.entry.now.rows }
 {
-    lines.iter().find(|line| line.name.as_slice() == name)
+    for line in lines.iter() {
+        if line.name == name {
+            return Some(line);
+        }
+    }
+    None
 }
 
 /// Whether a line, if there is one, is that of a definition, if there is one.
 fn is_line_of_some(
     bindings: &Bindings<'_, '_, '_>,
-    line: Option<&BorrowedSymbol<'_>>,
+    line: &Option<BorrowedSymbol<'_>>,
     meaning: &Option<Meaning<'_>>,
 ) -> bool
-    ensures { IsTrue result ↔ (option_map symbol_row (option_copied line.entry)
+    ensures { IsTrue result ↔ (option_map symbol_row line.now
         ≡ option_map (symbol_row_of bindings.now.places) (option_map meaning_view meaning.now)) }
 {
     match (line, meaning) {
@@ -329,7 +334,7 @@ pub fn has_line(bound: &BoundLink<'_, '_>, name: &[u8], meaning: &Option<Meaning
 {
     let link = bound.link();
     let line = line_named(&link.map.symbols, name);
-    is_line_of_some(bound.bindings(), line, meaning)
+    is_line_of_some(bound.bindings(), &line, meaning)
 }
 
 /// Whether a line is that of a name that no object defines, and that is one of the linker's with a line.
@@ -341,14 +346,14 @@ fn is_linkers_line(
     requires { AreUsed bindings.now.objects names.now }
     ensures { IsTrue result
         ↔ (option_map (symbol_row_of bindings.now.places)
-        (linker_line bindings.now.objects (cow_slice_items line.now.name)) ≡ Some (symbol_row line.now)) }
+        (linker_line bindings.now.objects line.now.name.now) ≡ Some (symbol_row line.now)) }
 {
-    if !names.contains(line.name.as_slice()) {
+    if !names.contains(line.name) {
         return false;
     }
-    match bindings.bound_of(&line.name) {
+    match bindings.bound_of(line.name) {
         Some(bound) => {
-            is_linkers(line.definition) && line.address == bindings.bound(&line.name, bound)
+            is_linkers(line.definition) && line.address == bindings.bound(line.name, bound)
         }
         None => false,
     }
@@ -364,7 +369,7 @@ fn is_line_of_name(
 ) -> bool
     requires names { AreUsed bindings.now.objects names.now }
     requires meaning { option_map meaning_view meaning.now
-        ≡ object_meaning bindings.now.objects (cow_slice_items line.now.name) }
+        ≡ object_meaning bindings.now.objects line.now.name.now }
     ensures { IsTrue result ↔ IsLine bindings.now.objects bindings.now.places
         (symbol_row line.now) }
 {
@@ -384,7 +389,7 @@ pub fn is_right_line(
     ensures { IsTrue result ↔ IsLine bindings.now.objects bindings.now.places
         (symbol_row line.now) }
 {
-    let meaning = bindings.object_meaning(&line.name);
+    let meaning = bindings.object_meaning(line.name);
     is_line_of_name(bindings, names, &meaning, line)
 }
 
@@ -396,11 +401,11 @@ pub fn meaning_of_line<'a>(
 ) -> Option<Meaning<'a>>
     requires { choices.now ≡ bindings.now.objects }
     ensures { option_map meaning_view result
-        ≡ object_meaning bindings.now.objects (cow_slice_items line.now.name) }
+        ≡ object_meaning bindings.now.objects line.now.name.now }
 {
     match choices.find(line) {
         Some(symbol) => bindings.meant(&symbol),
-        None => bindings.object_meaning(&line.name),
+        None => bindings.object_meaning(line.name),
     }
 }
 
@@ -424,15 +429,15 @@ fn are_right_lines<'a>(
     bindings: &Bindings<'_, '_, 'a>,
     names: &BTreeSet<&[u8]>,
     choices: &OwnChoices<'_, 'a>,
-    lines: &[BorrowedSymbol<'_>],
+    lines: &SymbolLines<'_>,
 ) -> bool
     requires names { AreUsed bindings.now.objects names.now }
     requires choices { choices.now ≡ bindings.now.objects }
-    ensures { IsTrue result ↔ All
-        (λ line. IsLine bindings.now.objects bindings.now.places (symbol_row line)) lines.now }
+    ensures { IsTrue result
+        ↔ All (IsLine bindings.now.objects bindings.now.places) lines.now.rows }
 {
-    for line in lines {
-        if !is_right_by(bindings, names, choices, line) {
+    for line in lines.iter() {
+        if !is_right_by(bindings, names, choices, &line) {
             return false;
         }
     }
@@ -450,13 +455,13 @@ fn is_sum(whole: usize, a: usize, b: usize) -> bool
 fn listed_choices<'b, 'a>(
     alloc: Global,
     bindings: &'b Bindings<'_, '_, 'a>,
-    lines: &[BorrowedSymbol<'_>],
+    lines: &SymbolLines<'_>,
 ) -> Result<Option<OwnChoices<'b, 'a>>, AllocError>
-    requires { Ascends SymbolBefore (map symbol_row lines.now) }
+    requires { Ascends SymbolBefore lines.now.rows }
     ensures listed { let L = bindings.now.objects in IfOk result
         (λ o. IsSome o
         ↔ (AreSoundSymbols L × AreUnique L
-        × ((name : List ℕ) → HasLine (map symbol_row lines.now) L bindings.now.places name))) }
+        × ((name : List ℕ) → HasLine lines.now.rows L bindings.now.places name))) }
     ensures choices { IfOk result (λ o. IfSome o (λ c. c ≡ bindings.now.objects)) }
 {
     if !bindings.are_sound() {

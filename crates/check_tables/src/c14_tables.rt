@@ -2,7 +2,6 @@
 //! its last file part, or no sections. All is compared in place, and no name is looked up whose line names its chosen
 //! definition.
 ghost use Rattle.std.specs.Prelude.{◌≡◌, ◌↔◌, ◌*◌, ◌<◌, ◌≤◌, ◌^◌, ℕ, All, List, IfSome, IsSome, IsSomeAnd, IsTrue, is_some, length, map, not};
-ghost use Rattle.linkmap.specs.Borrowed.{symbol_row};
 ghost use Rattle.elf_model.specs.Image.MemoryImage.{HasNoSections, loads, file_end};
 ghost use Rattle.elf_model.specs.Inputs.Records.{file_header};
 ghost use Rattle.elf_model.specs.Image.RightLink.{Holds, HoldsBefore, HoldsTables, objects_of, tabled_of};
@@ -18,7 +17,7 @@ use crate::c14_tables::strip::strip_zeros;
 use check_relocs::Bindings;
 use check_stages::{BoundLink, file_end};
 use elf_model::{FileHeader, SymtabLine};
-use linkmap::BorrowedSymbol;
+use linkmap::SymbolLines;
 
 pub mod entries;
 pub mod lines;
@@ -61,22 +60,20 @@ pub fn has_no_sections(header: &FileHeader) -> bool
 fn strip_tables<'a, 'b>(
     bindings: &Bindings<'_, '_, 'a>,
     choices: &OwnChoices<'_, 'a>,
-    lines: &[BorrowedSymbol<'_>],
+    lines: &SymbolLines<'_>,
     bytes: &'b [u8],
     padding: usize,
     count: u64,
 ) -> Option<Tables<'b>>
-    requires lines { All (λ line. IsLine bindings.now.objects bindings.now.places
-        (symbol_row line)) lines.now }
+    requires lines { All (IsLine bindings.now.objects bindings.now.places) lines.now.rows }
     requires choices { choices.now ≡ bindings.now.objects }
     requires padding { padding ≤ 8 }
     ensures left { (others : List ℕ) →
         (AreTables bindings.now.places
-        (tabled bindings.now.objects
-        (map symbol_row lines.now)) padding bytes.entry.now count others
+        (tabled bindings.now.objects lines.now.rows) padding bytes.entry.now count others
         ↔ IsSomeAnd result (λ t. t.names.now ≡ others)) }
     ensures offset { IfSome result (λ t. t.name_at
-        ≡ length (name_section (tabled bindings.now.objects (map symbol_row lines.now)))) }
+        ≡ length (name_section (tabled bindings.now.objects lines.now.rows))) }
     ensures room { IfSome result (λ _. 24 * count < 2 ^ 63) }
 {
     let bytes = strip_zeros(bytes, padding)?;

@@ -230,10 +230,10 @@ fn suspects<'a>(
     let definitions = bindings.definitions();
     let mut told = BTreeSet::new(alloc);
     let mut suspects = Vec::new(alloc);
-    for line in &link.map.symbols {
-        told.insert(line.name.as_slice())?;
-        if !c13_symbols::is_right_line(bindings, names, line) {
-            suspects.push(line.name.as_slice())?;
+    for line in link.map.symbols.iter() {
+        told.insert(line.name)?;
+        if !c13_symbols::is_right_line(bindings, names, &line) {
+            suspects.push(line.name)?;
         }
     }
     for k in 0..definitions.len() {

@@ -101,16 +101,29 @@ pub fn line_in<'t>(text: &'t [u8], word: &str, k: u64) -> Option<(usize, &'t [u8
     None
 }
 
+/// The number of the symbol line of a name, if there is one, from 0.
+fn symbol_number(link: &Link<'_>, name: &[u8]) -> Option<u64> {
+    let mut number: u64 = 0;
+    for line in link.map.symbols.iter() {
+        if line.name == name {
+            return Some(number);
+        }
+        number = number.saturating_add(1);
+    }
+    None
+}
+
 /// Of the lines that a key is of: the word with which they begin, the number of the one that the map has, if it has one, from 0
 /// among these, and why it should have none.
 fn kind_of_line(link: &Link<'_>, key: &LineKey<'_>) -> (&'static str, Option<u64>, &'static str) {
-    let (commons, symbols) = (&link.map.commons, &link.map.symbols);
     match key {
         LineKey::Object(k) => ("object ", Some(*k), "no more objects are loaded"),
         LineKey::Drop(k) => ("drop ", Some(*k), "no more sections are dropped"),
         LineKey::Place(k) => ("place ", Some(*k), "no more sections are kept"),
         LineKey::Common(name) => {
-            let number = commons
+            let number = link
+                .map
+                .commons
                 .iter()
                 .position(|line| line.name.as_slice() == *name);
             (
@@ -119,12 +132,7 @@ fn kind_of_line(link: &Link<'_>, key: &LineKey<'_>) -> (&'static str, Option<u64
                 "the name has no common block",
             )
         }
-        LineKey::Symbol(name) => {
-            let number = symbols
-                .iter()
-                .position(|line| line.name.as_slice() == *name);
-            ("symbol ", number.map(|k| k as u64), "the name has no line")
-        }
+        LineKey::Symbol(name) => ("symbol ", symbol_number(link, name), "the name has no line"),
     }
 }
 

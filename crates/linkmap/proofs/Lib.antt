@@ -10,5 +10,6 @@ pub mod PlainVectors
 pub mod Parsers
 pub mod PrintLaws
 pub mod ReadLaws
+pub mod SymbolRuns
 pub mod Tags
 pub mod TextLaws

@@ -1,14 +1,13 @@
--- What a map and its lines say, as they are read in place.
-use Rattle.std.specs.Prelude.{map}
+-- What the lines of a map say, as they are read in place.
 use Rattle.std.specs.Cow.{cow_slice_items}
-use Rattle.elf_model.specs.Image.MapRecord.{CommonRow, MapRecord, ObjectRow, OfLocal, OfName, PlaceRow, SlotRow, SymbolRow, TargetRow}
+use Rattle.elf_model.specs.Image.MapRecord.{CommonRow, ObjectRow, OfLocal, OfName, PlaceRow, SlotRow, SymbolRow, TargetRow}
 use Rattle.linkmap.specs.declared.borrowed.BorrowedCommon.{BorrowedCommon}
-use Rattle.linkmap.specs.declared.borrowed.BorrowedMap.{BorrowedMap}
 use Rattle.linkmap.specs.declared.borrowed.BorrowedObject.{BorrowedObject}
 use Rattle.linkmap.specs.declared.borrowed.BorrowedPlace.{BorrowedPlace}
 use Rattle.linkmap.specs.declared.borrowed.BorrowedSlot.{BorrowedSlot}
 use Rattle.linkmap.specs.declared.borrowed.BorrowedSymbol.{BorrowedSymbol}
 use Rattle.linkmap.specs.declared.borrowed.BorrowedTarget.{BorrowedTarget}
+use Rattle.linkmap.specs.declared.borrowed.KeptSymbol.{KeptSymbol}
 use Rattle.linkmap.specs.declared.borrowed.BorrowedTarget.TheVariants as target
 
 abbrev pub object_row : BorrowedObject → ObjectRow
@@ -27,19 +26,8 @@ target_row (target.Local object symbol) = OfLocal object symbol
 abbrev pub slot_row : BorrowedSlot → SlotRow
 slot_row l = record { address = l.address; kind = l.kind; target = target_row l.target }
 
-abbrev pub symbol_row : BorrowedSymbol → SymbolRow
-symbol_row l = record { address = l.address; definition = l.definition; name = cow_slice_items l.name }
+abbrev pub kept_row : KeptSymbol → SymbolRow
+kept_row l = record { address = l.address; definition = l.definition; name = cow_slice_items l.name }
 
--- a map as clauses see it
-abbrev pub record_of : BorrowedMap → MapRecord
-record_of m = record {
-  version = m.version;
-  objects = map object_row m.objects.items;
-  drops = m.drops.items;
-  places = map place_row m.places.items;
-  commons = map common_row m.commons.items;
-  got = m.got;
-  slots = map slot_row m.slots.items;
-  symbols = map symbol_row m.symbols.items;
-  symtab = m.symtab;
-}
+abbrev pub symbol_row : BorrowedSymbol → SymbolRow
+symbol_row l = record { address = l.address; definition = l.definition; name = l.name.now }

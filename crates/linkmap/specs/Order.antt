@@ -1,7 +1,7 @@
 -- Which line may stand next in a map, by the lines before it.
 use Rattle.std.specs.Prelude.{ℕ, ◌-◌, ◌≡◌, ⊤, Some, None, List, [], ◌∷◌, ◌++◌, length, slice_get, MatchOption}
 use Rattle.elf_model.specs.Image.MapRecord.{MapRecord}
-use Rattle.linkmap.specs.Borrowed.{object_row, place_row, common_row, slot_row, symbol_row}
+use Rattle.linkmap.specs.Borrowed.{object_row, place_row, common_row, slot_row, kept_row, symbol_row}
 use Rattle.elf_model.specs.Image.MapText.{Line, Version, Object, Drop, Place, Common, Got, Slot, Symbol, Symtab, End, DropBefore, PlaceBefore, CommonBefore, SlotBefore, SymbolBefore}
 use Rattle.linkmap.specs.declared.fields.MapLine.{MapLine}
 use Rattle.linkmap.specs.declared.fields.MapLine.TheVariants as line
@@ -18,7 +18,8 @@ row (line.Place p) = Place (place_row p)
 row (line.Common c) = Common (common_row c)
 row (line.Got g) = Got g
 row (line.Slot s) = Slot (slot_row s)
-row (line.Symbol s) = Symbol (symbol_row s)
+row (line.Plain s) = Symbol (symbol_row s)
+row (line.Symbol s) = Symbol (kept_row s)
 row (line.Symtab t) = Symtab t
 row line.End = End
 

@@ -1,5 +1,8 @@
 //! A map as it is read in place: a name whose bytes all stand for themselves is borrowed from the text.
+ghost use Rattle.std.specs.Prelude.{◌≡◌};
+ghost use Rattle.linkmap.specs.Borrowed.{kept_row, symbol_row};
 
+use crate::symbol_lines::SymbolLines;
 use elf_model::{Definition, DropLine, GotLine, SlotKind, SymtabLine};
 use std::borrow::CowSlice;
 
@@ -48,10 +51,44 @@ pub struct BorrowedSlot<'t> {
 
 /// A `SymbolLine` with its name as it is read.
 #[derive(Debug, Drop)]
-pub struct BorrowedSymbol<'t> {
+pub struct KeptSymbol<'t> {
     pub address: u64,
     pub definition: Definition,
     pub name: CowSlice<'t, u8>,
+}
+
+impl<'t> KeptSymbol<'t> {
+    /// The line with its name borrowed.
+    pub(crate) fn borrowed(&self) -> BorrowedSymbol<'_>
+        ensures { symbol_row result ≡ kept_row self.now }
+    {
+        BorrowedSymbol {
+            address: self.address,
+            definition: self.definition,
+            name: self.name.as_slice(),
+        }
+    }
+}
+
+/// A `SymbolLine` with its name borrowed.
+#[derive(Clone, Copy, Debug)]
+pub struct BorrowedSymbol<'s> {
+    pub address: u64,
+    pub definition: Definition,
+    pub name: &'s [u8],
+}
+
+impl<'s> BorrowedSymbol<'s> {
+    /// The line as it is kept.
+    pub(crate) fn kept(self) -> KeptSymbol<'s>
+        ensures { kept_row result ≡ symbol_row self.entry }
+    {
+        KeptSymbol {
+            address: self.address,
+            definition: self.definition,
+            name: CowSlice::Borrowed(self.name),
+        }
+    }
 }
 
 /// A `LinkMap` with its names as they are read.
@@ -64,6 +101,6 @@ pub struct BorrowedMap<'t> {
     pub commons: Vec<BorrowedCommon<'t>>,
     pub got: Option<GotLine>,
     pub slots: Vec<BorrowedSlot<'t>>,
-    pub symbols: Vec<BorrowedSymbol<'t>>,
+    pub symbols: SymbolLines<'t>,
     pub symtab: Option<SymtabLine>,
 }

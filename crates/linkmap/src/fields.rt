@@ -1,14 +1,17 @@
 //! The lines of a map: the first, which tells the version, and the others, each read by its first word.
-ghost use Rattle.std.specs.Prelude.{◌≡◌, option_map};
-ghost use Rattle.linkmap.specs.Borrowed.{object_row, place_row, common_row, slot_row, target_row, symbol_row};
+ghost use Rattle.std.specs.Prelude.{◌≡◌, IfOk, option_map};
+ghost use Rattle.linkmap.specs.Borrowed.{object_row, place_row, common_row, slot_row, target_row, kept_row, symbol_row};
 ghost use Rattle.linkmap.specs.Reading as reading;
+ghost use Rattle.linkmap.specs.Record.{IsRead};
+ghost use Rattle.linkmap.specs.SymbolRuns as runs;
 ghost use Rattle.linkmap.specs.Order.{row};
 
 use crate::borrowed::{
     BorrowedCommon, BorrowedObject, BorrowedPlace, BorrowedSlot, BorrowedSymbol, BorrowedTarget,
+    KeptSymbol,
 };
 use crate::digits::{LineFault, read_address, read_last_number, read_number, strip};
-use crate::names::read_name;
+use crate::names::{read_name, read_plain_name};
 use elf_model::{Definition, DropLine, GotLine, SlotKind, SymtabLine};
 use std::alloc::Global;
 
@@ -21,7 +24,9 @@ pub enum MapLine<'t> {
     Common(BorrowedCommon<'t>),
     Got(GotLine),
     Slot(BorrowedSlot<'t>),
-    Symbol(BorrowedSymbol<'t>),
+    /// A symbol line whose name is spelled without an escape.
+    Plain(BorrowedSymbol<'t>),
+    Symbol(KeptSymbol<'t>),
     Symtab(SymtabLine),
     End,
 }
@@ -167,13 +172,30 @@ fn read_definition(bytes: &[u8]) -> Option<(Definition, &[u8])>
 }
 
 #[tactic(auto, unfolding(crate::specs::Reading::symbol_at))]
-fn read_symbol(alloc: Global, bytes: &[u8]) -> Result<(BorrowedSymbol<'_>, &[u8]), LineFault>
-    ensures { reading.Gives (λ x. (symbol_row x.0, x.1.now)) result (reading.symbol_at bytes.now) }
+fn read_symbol(alloc: Global, bytes: &[u8]) -> Result<(KeptSymbol<'_>, &[u8]), LineFault>
+    ensures { reading.Gives (λ x. (kept_row x.0, x.1.now)) result (reading.symbol_at bytes.now) }
 {
     let (address, bytes) = read_address(bytes).ok_or(LineFault::Bad)?;
     let (definition, bytes) = read_definition(bytes).ok_or(LineFault::Bad)?;
     let (name, bytes) = read_name(alloc, bytes)?;
     Ok((
+        KeptSymbol {
+            address,
+            definition,
+            name,
+        },
+        bytes,
+    ))
+}
+
+#[tactic(auto, unfolding(crate::specs::SymbolRuns::plain_symbol_at))]
+fn read_plain_symbol(bytes: &[u8]) -> Option<(BorrowedSymbol<'_>, &[u8])>
+    ensures { option_map (λ x. (symbol_row x.0, x.1.now)) result ≡ runs.plain_symbol_at bytes.now }
+{
+    let (address, bytes) = read_address(bytes)?;
+    let (definition, bytes) = read_definition(bytes)?;
+    let (name, bytes) = read_plain_name(bytes)?;
+    Some((
         BorrowedSymbol {
             address,
             definition,
@@ -181,6 +203,14 @@ fn read_symbol(alloc: Global, bytes: &[u8]) -> Result<(BorrowedSymbol<'_>, &[u8]
         },
         bytes,
     ))
+}
+
+/// The symbol line with which the bytes begin, if its name is spelled without an escape, and the bytes behind it.
+#[tactic(auto, unfolding(crate::specs::SymbolRuns::plain_line_at))]
+pub fn read_plain_line(bytes: &[u8]) -> Option<(BorrowedSymbol<'_>, &[u8])>
+    ensures { option_map (λ x. (symbol_row x.0, x.1.now)) result ≡ runs.plain_line_at bytes.now }
+{
+    read_plain_symbol(strip(bytes, b"symbol ")?)
 }
 
 #[tactic(auto, unfolding(crate::specs::Reading::symtab_at))]
@@ -204,11 +234,15 @@ pub fn read_version(bytes: &[u8]) -> Option<(u64, &[u8])>
     Some((2, rest))
 }
 
-/// The line that the bytes begin with, and the bytes behind it.
+/// The line that the bytes begin with, and the bytes behind it. Most lines of a large map are those of symbols.
 #[tactic(auto, unfolding(crate::specs::Reading::line_at))]
 pub fn read_line(alloc: Global, bytes: &[u8]) -> Result<(MapLine<'_>, &[u8]), LineFault>
-    ensures { reading.Gives (λ x. (row x.0, x.1.now)) result (reading.line_at bytes.now) }
+    ensures line { reading.Gives (λ x. (row x.0, x.1.now)) result (reading.line_at bytes.now) }
+    ensures read { IfOk result (λ x. IsRead x.0 bytes.now x.1.now) }
 {
+    if let Some((line, rest)) = read_plain_line(bytes) {
+        return Ok((MapLine::Plain(line), rest));
+    }
     if let Some(rest) = strip(bytes, b"object ") {
         let (line, rest) = read_object(alloc, rest)?;
         return Ok((MapLine::Object(line), rest));

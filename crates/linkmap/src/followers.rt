@@ -6,6 +6,7 @@ ghost use Rattle.linkmap.specs.Order.{IsAboveLast};
 
 use crate::borrowed::{BorrowedCommon, BorrowedPlace, BorrowedSlot, BorrowedSymbol};
 use crate::keys::{drop_before, name_before};
+use crate::symbol_lines::SymbolLines;
 use elf_model::DropLine;
 
 fn place_before(p: &BorrowedPlace<'_>, q: &BorrowedPlace<'_>) -> bool
@@ -29,7 +30,7 @@ fn slot_before(p: &BorrowedSlot<'_>, q: &BorrowedSlot<'_>) -> bool
 fn symbol_before(p: &BorrowedSymbol<'_>, q: &BorrowedSymbol<'_>) -> bool
     ensures { IsTrue result ↔ SymbolBefore (symbol_row p.now) (symbol_row q.now) }
 {
-    name_before(&p.name, &q.name)
+    name_before(p.name, q.name)
 }
 
 /// Whether a line may stand behind those of its kind so far.
@@ -76,12 +77,11 @@ pub fn may_follow_slots(slots: &[BorrowedSlot<'_>], s: &BorrowedSlot<'_>) -> boo
 }
 
 /// Whether a line may stand behind those of its kind so far.
-pub fn may_follow_symbols(symbols: &[BorrowedSymbol<'_>], s: &BorrowedSymbol<'_>) -> bool
-    ensures { IsTrue result ↔ IsAboveLast
-        (λ p q. SymbolBefore (symbol_row p) (symbol_row q)) symbols.now s.now }
+pub fn may_follow_symbols(symbols: &SymbolLines<'_>, s: &BorrowedSymbol<'_>) -> bool
+    ensures { IsTrue result ↔ IsAboveLast SymbolBefore symbols.now.rows (symbol_row s.now) }
 {
     match symbols.last() {
-        Some(last) => symbol_before(last, s),
+        Some(last) => symbol_before(&last, s),
         None => true,
     }
 }

@@ -10,8 +10,10 @@ mod keys;
 mod line;
 mod names;
 mod owned;
+mod plain_run;
 mod printer;
 mod reader;
+mod symbol_lines;
 
 pub use borrowed::{
     BorrowedCommon, BorrowedMap, BorrowedObject, BorrowedPlace, BorrowedSlot, BorrowedSymbol,
@@ -23,3 +25,4 @@ pub use line::Line;
 pub use names::escape;
 pub use printer::{print, put_line};
 pub use reader::{read, read_borrowed};
+pub use symbol_lines::{SymbolLines, SymbolWalk};

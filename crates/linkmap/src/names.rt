@@ -5,6 +5,7 @@ ghost use Rattle.std.specs.Cow.{cow_slice_items};
 ghost use Rattle.std.specs.List.{prefix_len};
 ghost use Rattle.elf_model.specs.Image.MapText as map_text;
 ghost use Rattle.linkmap.specs.Reading as reading;
+ghost use Rattle.linkmap.specs.SymbolRuns as runs;
 
 use crate::digits::{LineFault, put_pair, read_pair, strip};
 use std::alloc::{AllocError, Global};
@@ -158,13 +159,22 @@ fn read_spelled(alloc: Global, bytes: &[u8]) -> Result<(Vec<u8>, &[u8]), LineFau
     }
 }
 
+/// A name of bytes that stand for themselves with the newline that ends its line, and the bytes behind it.
+#[tactic(auto, unfolding(crate::specs::SymbolRuns::plain_name_at))]
+pub fn read_plain_name(bytes: &[u8]) -> Option<(&[u8], &[u8])>
+    ensures { option_map (λ x. (x.0.now, x.1.now)) result ≡ runs.plain_name_at bytes.now }
+{
+    let (plain, after) = split_plain(bytes);
+    let rest = strip(after, b"\n")?;
+    Some((plain, rest))
+}
+
 /// A name with the newline that ends its line, and the bytes behind it. It is borrowed where each of its bytes stands for
 /// itself.
 pub fn read_name(alloc: Global, bytes: &[u8]) -> Result<(CowSlice<'_, u8>, &[u8]), LineFault>
     ensures { reading.Gives (λ x. (cow_slice_items x.0, x.1.now)) result (reading.name_at bytes.now) }
 {
-    let (plain, after) = split_plain(bytes);
-    if let Some(rest) = strip(after, b"\n") {
+    if let Some((plain, rest)) = read_plain_name(bytes) {
         return Ok((CowSlice::Borrowed(plain), rest));
     }
     let (name, rest) = read_spelled(alloc, bytes)?;

@@ -2,14 +2,14 @@
 ghost use Rattle.std.specs.Prelude.{◌≡◌, IfOk, map};
 ghost use Rattle.std.specs.Cow.{cow_slice_items};
 ghost use Rattle.elf_model.specs.Image.MapRecord as owned;
-ghost use Rattle.elf_model.specs.Image.MapRecord.{CommonRow, ObjectRow, PlaceRow, SlotRow, SymbolRow, TargetRow, map_of};
+ghost use Rattle.elf_model.specs.Image.MapRecord.{CommonRow, ObjectRow, PlaceRow, SlotRow, TargetRow, map_of};
 ghost use Rattle.linkmap.specs.Borrowed as borrowed;
-ghost use Rattle.linkmap.specs.Borrowed.{record_of};
+ghost use Rattle.linkmap.specs.Record.{record_of};
 
 use crate::borrowed::{
-    BorrowedCommon, BorrowedMap, BorrowedObject, BorrowedPlace, BorrowedSlot, BorrowedSymbol,
-    BorrowedTarget,
+    BorrowedCommon, BorrowedMap, BorrowedObject, BorrowedPlace, BorrowedSlot, BorrowedTarget,
 };
+use crate::symbol_lines::SymbolLines;
 use elf_model::{CommonLine, LinkMap, ObjectLine, PlaceLine, SlotLine, SlotTarget, SymbolLine};
 use std::alloc::{AllocError, Global};
 use std::borrow::CowSlice;
@@ -134,25 +134,6 @@ impl<'t> IntoOwned for BorrowedSlot<'t> {
     }
 }
 
-impl<'t> IntoOwned for BorrowedSymbol<'t> {
-    type Owned = SymbolLine;
-
-    ghost Row = { SymbolRow };
-
-    ghost line_view = { borrowed.symbol_row };
-
-    ghost owned_view = { owned.symbol_row };
-
-    fn into_owned(self, alloc: Global) -> Result<SymbolLine, AllocError> {
-        let name = owned_name(alloc, self.name)?;
-        Ok(SymbolLine {
-            address: self.address,
-            definition: self.definition,
-            name,
-        })
-    }
-}
-
 /// Lines that own their names, one for each of lines as they are read.
 fn all_owned<T: IntoOwned + Drop>(alloc: Global, lines: Vec<T>) -> Result<Vec<T::Owned>, AllocError>
 where
@@ -162,6 +143,21 @@ where
     let mut owned = Vec::with_capacity(alloc, lines.len())?;
     for line in lines {
         owned.push(line.into_owned(alloc)?)?;
+    }
+    Ok(owned)
+}
+
+/// The symbol lines with names of their own.
+fn owned_symbols(alloc: Global, lines: &SymbolLines<'_>) -> Result<Vec<SymbolLine>, AllocError>
+    ensures { IfOk result (λ v. map owned.symbol_row v.items ≡ lines.now.rows) }
+{
+    let mut owned = Vec::with_capacity(alloc, lines.len())?;
+    for line in lines.iter() {
+        owned.push(SymbolLine {
+            address: line.address,
+            definition: line.definition,
+            name: Vec::from_slice(alloc, line.name)?,
+        })?;
     }
     Ok(owned)
 }
@@ -178,7 +174,7 @@ pub fn owned(alloc: Global, map: BorrowedMap<'_>) -> Result<LinkMap, AllocError>
         commons: all_owned(alloc, map.commons)?,
         got: map.got,
         slots: all_owned(alloc, map.slots)?,
-        symbols: all_owned(alloc, map.symbols)?,
+        symbols: owned_symbols(alloc, &map.symbols)?,
         symtab: map.symtab,
     })
 }

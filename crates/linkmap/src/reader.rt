@@ -2,7 +2,7 @@
 ghost use Rattle.std.specs.Prelude.{◌≡◌, ◌↔◌, IsTrue, IfOk, IfErr, OnOk, MatchResult};
 ghost use Rattle.elf_model.specs.Image.MapRecord.{MapRecord, map_of};
 ghost use Rattle.elf_model.specs.Image.MapText.{End, IsMap, MapFails, text};
-ghost use Rattle.linkmap.specs.Borrowed.{record_of};
+ghost use Rattle.linkmap.specs.Record.{AreBehind, IsRead, record_of};
 ghost use Rattle.linkmap.specs.Order.{row, EndsBeforeDrops, EndsBeforePlaces, EndsBeforeCommons, EndsBeforeGot, EndsBeforeSlots, EndsBeforeSymbols, MayStand, add, empty_map};
 ghost use Rattle.elf_model.specs.declared.faults.MapFault.TheVariants as map_fault;
 
@@ -13,6 +13,7 @@ use crate::followers::{
     may_follow_commons, may_follow_drops, may_follow_places, may_follow_slots, may_follow_symbols,
 };
 use crate::owned::owned;
+use crate::symbol_lines::SymbolLines;
 use elf_model::{LinkMap, MapFault};
 use std::alloc::{AllocError, Global};
 
@@ -27,7 +28,7 @@ fn empty<'t>(alloc: Global, version: u64) -> BorrowedMap<'t>
         commons: Vec::new(alloc),
         got: None,
         slots: Vec::new(alloc),
-        symbols: Vec::new(alloc),
+        symbols: SymbolLines::new(alloc),
         symtab: None,
     }
 }
@@ -79,14 +80,27 @@ fn may_stand(map: &BorrowedMap<'_>, line: &MapLine<'_>) -> bool
         MapLine::Common(c) => ends_before_got(map) && may_follow_commons(&map.commons, c),
         MapLine::Got(_) => ends_before_got(map),
         MapLine::Slot(s) => ends_before_symbols(map) && may_follow_slots(&map.slots, s),
-        MapLine::Symbol(s) => map.symtab.is_none() && may_follow_symbols(&map.symbols, s),
+        MapLine::Plain(s) => map.symtab.is_none() && may_follow_symbols(&map.symbols, s),
+        MapLine::Symbol(s) => {
+            map.symtab.is_none() && may_follow_symbols(&map.symbols, &s.borrowed())
+        }
         MapLine::Symtab(_) => map.symtab.is_none() && map.version == 2,
         MapLine::End => false,
     }
 }
 
-fn add_line<'t>(map: &mut BorrowedMap<'t>, line: MapLine<'t>) -> Result<(), AllocError>
-    ensures { OnOk result (record_of map.new ≡ add (record_of map.old) (row line.entry)) }
+/// Adds a line with which a text begins, and behind which there is a rest.
+fn add_line<'t>(
+    map: &mut BorrowedMap<'t>,
+    line: MapLine<'t>,
+    text: &'t [u8],
+    rest: &'t [u8],
+) -> Result<(), AllocError>
+    requires stands { MayStand (record_of map.old) (row line) }
+    requires plain { IsRead line text.now rest.now }
+    requires here { AreBehind map.old text.now }
+    ensures added { OnOk result (record_of map.new ≡ add (record_of map.old) (row line.entry)) }
+    ensures here { OnOk result (AreBehind map.new rest.entry.now) }
 {
     match line {
         MapLine::Object(o) => map.objects.push(o)?,
@@ -95,7 +109,8 @@ fn add_line<'t>(map: &mut BorrowedMap<'t>, line: MapLine<'t>) -> Result<(), Allo
         MapLine::Common(c) => map.commons.push(c)?,
         MapLine::Got(g) => map.got = Some(g),
         MapLine::Slot(s) => map.slots.push(s)?,
-        MapLine::Symbol(s) => map.symbols.push(s)?,
+        MapLine::Plain(s) => map.symbols.add(s, text, rest)?,
+        MapLine::Symbol(s) => map.symbols.keep(s)?,
         MapLine::Symtab(t) => map.symtab = Some(t),
         MapLine::End => {}
     }
@@ -139,7 +154,7 @@ pub fn read_borrowed(alloc: Global, bytes: &[u8]) -> Result<BorrowedMap<'_>, Map
         if !may_stand(&map, &line) {
             return Err(MapFault::Line(number));
         }
-        add_line(&mut map, line)?;
+        add_line(&mut map, line, rest, after)?;
         rest = after;
         number += 1;
     }

@@ -1,7 +1,6 @@
 //! Definitions that are the chosen ones of their own names, found by the numbers by which lines of the map name them: for
 //! these no name is looked up.
 ghost use Rattle.std.specs.Prelude.{◌≡◌, IfOk, IfSome, IsTrue, Some, filter, option_copied, slice_get, true};
-ghost use Rattle.std.specs.Cow.{cow_slice_items};
 ghost use Rattle.elf_model.specs.Link.ChosenSymbols.{is_definition};
 ghost use Rattle.elf_model.specs.Link.Resolution.{all_symbols, chosen};
 ghost use Rattle.check_link.specs.Views.{symbol_view};
@@ -116,7 +115,7 @@ impl<'b, 'a> OwnChoices<'b, 'a> {
 
     /// The chosen definition of a line's name, where the line names it; None where that isn't known.
     pub fn find(&self, line: &BorrowedSymbol<'_>) -> Option<SymbolOf<'a>>
-        ensures { IfSome result (λ s. chosen self.now (cow_slice_items line.now.name)
+        ensures { IfSome result (λ s. chosen self.now line.now.name.now
             ≡ Some (symbol_view s)) }
     {
         let position = self.position(line)?;
@@ -124,7 +123,7 @@ impl<'b, 'a> OwnChoices<'b, 'a> {
             return None;
         }
         let symbol = self.definitions.get(position)?;
-        if symbol.name != line.name.as_slice() {
+        if symbol.name != line.name {
             return None;
         }
         Some(symbol)

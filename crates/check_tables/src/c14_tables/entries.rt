@@ -127,7 +127,7 @@ fn entry_with(
 ) -> Option<Symbol>
     requires line { IsLine bindings.now.objects bindings.now.places (symbol_row line.now) }
     requires meaning { option_map meaning_view meaning.now
-        ≡ object_meaning bindings.now.objects (cow_slice_items line.now.name) }
+        ≡ object_meaning bindings.now.objects line.now.name.now }
     ensures none { IfNone result (tabled bindings.now.objects (symbol_row line.now ∷ []) ≡ []) }
     ensures some { IfSome result (IsTabled bindings.now.objects bindings.now.places
         (symbol_row line.now) name_at) }

@@ -23,7 +23,7 @@ const NULL_ENTRY: Symbol = Symbol {
     st_size: 0,
 };
 
-use linkmap::BorrowedSymbol;
+use linkmap::{BorrowedSymbol, SymbolLines};
 
 /// What is left to compare: the entries that are left, the bytes from the next name on, and the offset of that
 /// name in `.strtab`.
@@ -102,7 +102,7 @@ fn strip_line<'a, 'b>(
     ensures fits { IfSome result (λ t. t.name_at < 2 ^ 32) }
 {
     match entry_by(bindings, choices, line, left.name_at) {
-        Some(entry) => strip_entry(left, &entry, &line.name),
+        Some(entry) => strip_entry(left, &entry, line.name),
         None => Some(left),
     }
 }
@@ -111,23 +111,22 @@ fn strip_line<'a, 'b>(
 pub fn strip_lines<'a, 'b>(
     bindings: &Bindings<'_, '_, 'a>,
     choices: &OwnChoices<'_, 'a>,
-    lines: &[BorrowedSymbol<'_>],
+    lines: &SymbolLines<'_>,
     tables: Tables<'b>,
 ) -> Option<Tables<'b>>
-    requires lines { All (λ line. IsLine bindings.now.objects bindings.now.places
-        (symbol_row line)) lines.now }
+    requires lines { All (IsLine bindings.now.objects bindings.now.places) lines.now.rows }
     requires choices { choices.now ≡ bindings.now.objects }
     ensures left { (others : List ℕ) →
         (AreLeft bindings.now.places tables.entry.entries.now tables.entry.names.now
-        tables.entry.name_at (tabled bindings.now.objects (map symbol_row lines.now)) others
+        tables.entry.name_at (tabled bindings.now.objects lines.now.rows) others
         ↔ IsSomeAnd result (λ t. t.names.now ≡ others)) }
     ensures offset { IfSome result (λ t. t.name_at
         ≡ tables.entry.name_at + length
-        (ended_names (tabled bindings.now.objects (map symbol_row lines.now)))) }
+        (ended_names (tabled bindings.now.objects lines.now.rows))) }
 {
     let mut left = tables;
-    for line in lines {
-        left = strip_line(bindings, choices, line, left)?;
+    for line in lines.iter() {
+        left = strip_line(bindings, choices, &line, left)?;
     }
     if left.entries.is_empty() {
         Some(left)

@@ -1,6 +1,5 @@
 //! The symbol table and its sections as they should follow an image's last file part.
 ghost use Rattle.std.specs.Prelude.{◌≡◌, ◌*◌, ◌<◌, ◌≤◌, ◌^◌, All, IfOk, IfSome};
-ghost use Rattle.linkmap.specs.Borrowed.{symbol_row};
 ghost use Rattle.elf_model.specs.Image.MemoryImage.{file_end, loads};
 ghost use Rattle.elf_model.specs.Image.RightLink.{HoldsBefore, objects_of, tabled_of};
 ghost use Rattle.elf_model.specs.declared.verdict.Clause.TheVariants as clause;
@@ -14,7 +13,7 @@ use crate::c14_tables::places_if_tables;
 use check_relocs::Bindings;
 use check_stages::BoundLink;
 use elf_model::{SHDR_SIZE, SYM_SIZE};
-use linkmap::BorrowedSymbol;
+use linkmap::SymbolLines;
 use std::alloc::{AllocError, Global};
 
 /// The contents of `.symtab` and of `.strtab`, and the names of the entries from the second on.
@@ -37,10 +36,9 @@ fn table_of<'a>(
     alloc: Global,
     bindings: &Bindings<'_, '_, 'a>,
     choices: &OwnChoices<'_, 'a>,
-    lines: &'a [BorrowedSymbol<'a>],
+    lines: &'a SymbolLines<'a>,
 ) -> Result<Table<'a>, AllocError>
-    requires lines { All (λ line. IsLine bindings.now.objects bindings.now.places
-        (symbol_row line)) lines.now }
+    requires lines { All (IsLine bindings.now.objects bindings.now.places) lines.now.rows }
     requires choices { choices.now ≡ bindings.now.objects }
 {
     let mut table = Table {
@@ -50,15 +48,15 @@ fn table_of<'a>(
     };
     table.symbols.resize(SYM_SIZE, 0)?;
     table.strings.push(0)?;
-    for line in lines {
+    for line in lines.iter() {
         let name_at = table.strings.len().min(u32::MAX as usize) as u32;
-        if let Some(entry) = entry_by(bindings, choices, line, name_at) {
+        if let Some(entry) = entry_by(bindings, choices, &line, name_at) {
             let mut record = [0; SYM_SIZE];
             entry.write_to(&mut record);
             table.symbols.extend_from_slice(&record)?;
-            table.strings.extend_from_slice(&line.name)?;
+            table.strings.extend_from_slice(line.name)?;
             table.strings.push(0)?;
-            table.names.push(&line.name)?;
+            table.names.push(line.name)?;
         }
     }
     Ok(table)

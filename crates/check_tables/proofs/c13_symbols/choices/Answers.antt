@@ -1,8 +1,7 @@
-use Rattle.std.proofs.Common.{◌≡◌, ◌∙◌, ap, List, ℕ, map, subst}
+use Rattle.std.proofs.Common.{◌≡◌, ◌∙◌, ap, List, ℕ, subst}
 use Rattle.std.specs.Prelude.{◌↔◌, IfSome, IsSome}
 use Rattle.elf_model.specs.Link.Loading.{LoadedObject}
 use Rattle.elf_model.specs.Image.MapRecord.{SymbolRow}
-use Rattle.linkmap.specs.Borrowed.{symbol_row}
 use Rattle.elf_model.specs.Link.Resolution.{AreSoundSymbols, AreUnique}
 use Rattle.elf_model.specs.Image.RightLink.{AreSymbolsListed, HasLine, Subject}
 use Rattle.check_relocs.specs.Bindings.{Bound, bound_of}
@@ -23,8 +22,8 @@ as_clause s T rows b er eb h =
 
 pub returns-clause-listed : goal.returns-clause-listed
 returns-clause-listed c =
-    let rows = ap (map symbol_row) c.deref.ensures.value ∙ ap (λ (s : Subject). s.map.symbols) (c.link.view_is ∙ c.link-link.ensures) in
-    as_clause c.args.bound.now (IsSome c.in_ok-choices.choices) (map symbol_row c.deref.result.now) c.bindings.result.now rows c.bindings.ensures
+    let rows = ap (λ (s : Subject). s.map.symbols) (c.link.view_is ∙ c.link-link.ensures) in
+    as_clause c.args.bound.now (IsSome c.in_ok-choices.choices) _ c.bindings.result.now rows c.bindings.ensures
     c.in_ok-choices.ensures.listed
 
 pub returns-clause-choices : goal.returns-clause-choices

@@ -1,7 +1,5 @@
-use Rattle.std.proofs.Common.{◌≡◌, ◌∙◌, Bool, List, Option, ap, find, map, option_map, sym}
-use Rattle.std.specs.Prelude.{option_copied}
+use Rattle.std.proofs.Common.{◌≡◌, ◌∙◌, Bool, ap, find, option_map, sym}
 use Rattle.std.specs.Str.{bytes_eq}
-use Rattle.elf_model.proofs.Found.{find-map}
 use Rattle.elf_model.specs.Image.MapRecord.{SymbolRow}
 use Rattle.elf_model.specs.Image.RightLink.{Subject, objects_of, symbol_row_of, where_of}
 use Rattle.elf_model.specs.Link.Listing.{listed}
@@ -15,10 +13,8 @@ returns c =
     let s = c.args.bound.now in
     let named : SymbolRow → Bool = λ row. bytes_eq row.name c.args.name.now in
     let means = option_map meaning_view c.args.meaning.now in
-    let rows : map symbol_row c.deref.result.now ≡ s.map.symbols =
-    ap (map symbol_row) c.deref.ensures.value ∙ ap (λ (t : Subject). t.map.symbols) (c.link.view_is ∙ c.link-link.ensures) in
-    let told : find named s.map.symbols ≡ option_map symbol_row (option_copied c.line_named-line.result) =
-    sym (ap (find named) rows) ∙ (find-map named symbol_row c.deref.result.now ∙ ap (option_map symbol_row) (sym c.line_named-line.ensures)) in
+    let told : find named s.map.symbols ≡ option_map symbol_row c.line_named-line.result =
+    sym (ap (λ (t : Subject). find named t.map.symbols) (c.link.view_is ∙ c.link-link.ensures)) ∙ sym c.line_named-line.ensures in
     let wanted : option_map (symbol_row_of c.bindings.result.now.places) means ≡ option_map (symbol_row_of (where_of s)) (listed (objects_of s) c.args.name.now) =
     ap (λ (b : Bound). option_map (symbol_row_of b.places) means) c.bindings.ensures ∙ ap (option_map (symbol_row_of (where_of s))) c.requires in (
       λ t. told ∙ (c.is_line_of_some.ensures.0 t ∙ wanted),

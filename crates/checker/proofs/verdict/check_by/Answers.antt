@@ -1,7 +1,7 @@
 use Rattle.std.proofs.Common.{Ok, Err, Result}
 use Rattle.std.specs.Prelude.{IfOk}
 use Rattle.elf_model.specs.Inputs.Files.{files_of, words_of}
-use Rattle.linkmap.specs.Borrowed.{record_of}
+use Rattle.linkmap.specs.Record.{record_of}
 use Rattle.checker.proofs.Verdicts.{unread_no, unread_yes, verdict_no, verdict_yes}
 use Rattle.checker.proofs.verdict.check_by.Goals as goal
 

@@ -1,4 +1,4 @@
-use Rattle.std.proofs.Common.{◌++◌, List, subst, sym, ◌∙◌}
+use Rattle.std.proofs.Common.{◌++◌, List, subst, sym}
 use Rattle.std.specs.Prelude.{◌↔◌, IsSomeAnd}
 use Rattle.elf_model.specs.Link.Meaning.{Meaning}
 use Rattle.check_tables.specs.Tabled.{AreLeft}
@@ -13,4 +13,4 @@ returns-in-Some-clause-left c = λ ms others.
     (λ (ds : List Meaning).
     AreLeft w l.entries.now l.names.now l.name_at (ds ++ ms) others ↔ IsSomeAnd c.strip_entry.result (λ r. AreLeft w r.entries.now r.names.now r.name_at ms others))
     (sym t.tabled_is)
-    (c.strip_entry.ensures.left w t.meaning ms others t.entry_is (t.named ∙ sym c.deref.ensures.value))
+    (c.strip_entry.ensures.left w t.meaning ms others t.entry_is t.named)
