@@ -441,6 +441,33 @@ fn plain_names_are_borrowed(rt: HostRuntime) -> Result<(), Fail> {
     Ok(())
 }
 
+/// A map of four symbols, of which the second has a name with an escape.
+const FOUR_SYMBOLS: &[u8] = b"ldmap 1\n\
+    symbol 0000000000400010 strong 0 1 a\n\
+    symbol 0000000000400020 weak 1 2 b\\x20c\n\
+    symbol 0000000000400030 common d\n\
+    symbol 0000000000400040 linker e\n\
+    end\n";
+
+/// The addresses of its lines, with their names.
+const FOUR_NAMES: [(u64, &[u8]); 4] = [
+    (0x40_0010, b"a"),
+    (0x40_0020, b"b c"),
+    (0x40_0030, b"d"),
+    (0x40_0040, b"e"),
+];
+
+#[test]
+fn symbol_lines_are_read_again(rt: HostRuntime) -> Result<(), Fail> {
+    let map = read_borrowed(rt.alloc(), FOUR_SYMBOLS)?;
+    assert!(rt; map.symbols.len() == 4);
+    assert!(rt; !map.symbols.is_empty());
+    for (line, wanted) in map.symbols.iter().zip(FOUR_NAMES.iter()) {
+        assert!(rt; line.address == wanted.0 && line.name == wanted.1);
+    }
+    Ok(())
+}
+
 #[test]
 fn lines_are_put_one_by_one(rt: HostRuntime) -> Result<(), Fail> {
     let mut wanted = Vec::from_slice(rt.alloc(), EACH_KIND)?;
