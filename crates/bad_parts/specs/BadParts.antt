@@ -60,39 +60,22 @@ pub record AreTwoTables (bytes : List ℕ) (p q : Part SectionHeader) : Type 0 w
   pub second : IsOfType bytes SHT_SYMTAB q
   pub after : p.number < q.number
 
--- an object has no such part; what is judged of it can be read
-abbrev pub IsBad : List ℕ → BadPart → Type 0
-IsBad bytes (part.Range p) = IsSectionPart bytes p × (¬ IsPlaced (length bytes) p.entry)
-IsBad bytes (part.SectionName p) = IsSectionPart bytes p × Has HasSectionStrings bytes × (¬ HasText (section_strings bytes) p.entry.sh_name)
-IsBad bytes (part.SymbolName p) = IsSymbolPart bytes p × Has HasSymbolStrings bytes × (¬ HasText (symbol_strings bytes) p.entry.st_name)
-IsBad bytes (part.SecondTable p q) = AreTwoTables bytes p q
-IsBad bytes (part.Extension p) = IsOfType bytes SHT_SYMTAB_SHNDX p
-IsBad bytes (part.SymbolTable p) = IsOfType bytes SHT_SYMTAB p × (¬ IsSymbolTable (sections bytes) p.entry)
-IsBad bytes (part.NullSymbol p) = IsSymbolPart bytes p × (p.number ≡ 0) × (¬ (p.entry ≡ null_symbol))
-IsBad bytes (part.Symbol p) = IsSymbolPart bytes p × (¬ IsGoodSymbol (file_header bytes).e_shnum p.entry)
-IsBad bytes (part.Rel p) = IsOfType bytes SHT_REL p
-IsBad bytes (part.Relas p) = IsOfType bytes SHT_RELA p × (¬ IsRelaSection (sections bytes) p.entry)
-IsBad bytes (part.Entry p) = IsEntryPart bytes p × Has HasSymbols bytes × (¬ (rela_symbol p.entry < length (symbols bytes)))
-IsBad bytes (part.Group p) = IsOfType bytes SHT_GROUP p × (¬ IsGroupSection (sections bytes) p.entry)
-IsBad bytes (part.Signature p) = IsOfType bytes SHT_GROUP p × Has HasSymbols bytes × (¬ (p.entry.sh_info < length (symbols bytes)))
-IsBad bytes (part.Member p) = IsMemberPart bytes p × (¬ MayBeMember (sections bytes) p.entry)
-
--- the fault that a part is of
-abbrev pub fault_of : BadPart → ObjFault
-fault_of (part.Range p) = fault.BadSectionRange
-fault_of (part.SectionName p) = fault.BadString
-fault_of (part.SymbolName p) = fault.BadString
-fault_of (part.Rel p) = fault.BadRela
-fault_of (part.Relas p) = fault.BadRela
-fault_of (part.Entry p) = fault.BadRela
-fault_of (part.Group p) = fault.BadGroup
-fault_of (part.Signature p) = fault.BadGroup
-fault_of (part.Member p) = fault.BadGroup
-fault_of _ = fault.BadSymbolTable
-
--- a part is bad, and of a fault
+-- a part is bad, and of a fault: an object has no such part; what is judged of it can be read
 abbrev pub IsBadOf : List ℕ → ObjFault → BadPart → Type 0
-IsBadOf bytes f p = IsBad bytes p × (fault_of p ≡ f)
+IsBadOf bytes f (part.Range p) = (f ≡ fault.BadSectionRange) × IsSectionPart bytes p × (¬ IsPlaced (length bytes) p.entry)
+IsBadOf bytes f (part.SectionName p) = (f ≡ fault.BadString) × IsSectionPart bytes p × Has HasSectionStrings bytes × (¬ HasText (section_strings bytes) p.entry.sh_name)
+IsBadOf bytes f (part.SymbolName p) = (f ≡ fault.BadString) × IsSymbolPart bytes p × Has HasSymbolStrings bytes × (¬ HasText (symbol_strings bytes) p.entry.st_name)
+IsBadOf bytes f (part.SecondTable p q) = (f ≡ fault.BadSymbolTable) × AreTwoTables bytes p q
+IsBadOf bytes f (part.Extension p) = (f ≡ fault.BadSymbolTable) × IsOfType bytes SHT_SYMTAB_SHNDX p
+IsBadOf bytes f (part.SymbolTable p) = (f ≡ fault.BadSymbolTable) × IsOfType bytes SHT_SYMTAB p × (¬ IsSymbolTable (sections bytes) p.entry)
+IsBadOf bytes f (part.NullSymbol p) = (f ≡ fault.BadSymbolTable) × IsSymbolPart bytes p × (p.number ≡ 0) × (¬ (p.entry ≡ null_symbol))
+IsBadOf bytes f (part.Symbol p) = (f ≡ fault.BadSymbolTable) × IsSymbolPart bytes p × (¬ IsGoodSymbol (file_header bytes).e_shnum p.entry)
+IsBadOf bytes f (part.Rel p) = (f ≡ fault.BadRela) × IsOfType bytes SHT_REL p
+IsBadOf bytes f (part.Relas p) = (f ≡ fault.BadRela) × IsOfType bytes SHT_RELA p × (¬ IsRelaSection (sections bytes) p.entry)
+IsBadOf bytes f (part.Entry p) = (f ≡ fault.BadRela) × IsEntryPart bytes p × Has HasSymbols bytes × (¬ (rela_symbol p.entry < length (symbols bytes)))
+IsBadOf bytes f (part.Group p) = (f ≡ fault.BadGroup) × IsOfType bytes SHT_GROUP p × (¬ IsGroupSection (sections bytes) p.entry)
+IsBadOf bytes f (part.Signature p) = (f ≡ fault.BadGroup) × IsOfType bytes SHT_GROUP p × Has HasSymbols bytes × (¬ (p.entry.sh_info < length (symbols bytes)))
+IsBadOf bytes f (part.Member p) = (f ≡ fault.BadGroup) × IsMemberPart bytes p × (¬ MayBeMember (sections bytes) p.entry)
 
 -- what is kept of a file that may be no object: its header, its section header table, and its symbols where they can be read
 pub record AreTables (bytes : List ℕ) (h : FileHeader) (ss : List SectionHeader) (read : Option (List Symbol)) : Type 0 where

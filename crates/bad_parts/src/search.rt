@@ -42,9 +42,7 @@ fn symbols_in<'a>(
 {
     let _header = header;
     let table = symbol_table(sections);
-    let tables = sections
-        .iter()
-        .filter(|section| section.sh_type == SHT_SYMTAB);
+    let tables = sections.iter().filter(|s| s.sh_type == SHT_SYMTAB);
     if tables.count() != 1 || table.sh_entsize as usize != SYM_SIZE || table.sh_size == 0 {
         return None;
     }

@@ -1,5 +1,5 @@
 -- A place that has the numbers of a kept relocation, and tells of it, is its place.
-use Rattle.std.proofs.Common.{◌≡◌, ◌∙◌, ℕ, true, List, Some, ap, subst, sym}
+use Rattle.std.proofs.Common.{◌≡◌, ℕ, true, List, Some, refl, subst, sym}
 use Rattle.std.specs.List.{slice_get}
 use Rattle.elf_model.specs.Link.Loading.{LoadedObject}
 use Rattle.elf_model.specs.Inputs.ObjectFile.{relas_of, sections}
@@ -22,14 +22,13 @@ placed objects p o h n i e x has there header is_kept listed some = record {
   o = o;
   h = h;
   at = record {
-    object = subst (λ (m : ℕ). slice_get objects m ≡ Some o) (sym has.object) there;
-    table = subst (λ (m : ℕ). slice_get (sections o.bytes) m ≡ Some h) (sym has.table) header;
-    kept = subst (λ (m : ℕ). is_kept_rela o m h ≡ true) (sym has.table) is_kept;
-    entry = ap (slice_get (relas_of o.bytes h)) has.number ∙ listed ∙ ap Some (sym has.entry);
-    some_kind = subst (λ (y : Rela). is_some_kind y ≡ true) (sym has.entry) some;
+    object = rw has.object there;
+    table = rw has.table header;
+    kept = rw has.table is_kept;
+    entry = rw (has.number, has.entry) listed;
+    some_kind = rw has.entry some;
   };
-  relocation =
-      ap (λ (m : ℕ). relocation_of m o h.sh_info x) (sym has.object) ∙ ap (λ (y : Rela). relocation_of p.object o h.sh_info y) (sym has.entry);
+  relocation = rw (has.object, has.entry) refl;
   told = record { section = has.section; section_name = has.section_name; symbol_name = has.symbol_name };
 }
 

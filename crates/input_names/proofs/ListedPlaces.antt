@@ -1,5 +1,5 @@
 -- A kept relocation that has a place is one of all.
-use Rattle.std.proofs.Common.{◌≡◌, ℕ, zero, suc, ◌+◌, ◌++◌, List, [], ◌∷◌, Some, arith, refl, subst, sym}
+use Rattle.std.proofs.Common.{◌≡◌, ℕ, zero, suc, ◌+◌, ◌++◌, List, [], ◌∷◌, Some, arith, refl}
 use Rattle.std.specs.Prelude.{Contains, cond, filter}
 use Rattle.std.specs.List.{slice_get}
 use Rattle.std.proofs.lemmas.List.Elements.{Contains-append_left, Contains-append_right}
@@ -17,15 +17,11 @@ among :
     {X Y : Type 0} (f : ℕ → X → List Y) (all : ℕ → List X → List Y) → ((k : ℕ) (x : X) (xs : List X) → all k (x ∷ xs) ≡ f k x ++ all (k + 1) xs) →
     (xs : List X) (k i n : ℕ) (x : X) (y : Y) → slice_get xs i ≡ Some x → n ≡ k + i → Contains (f n x) y → Contains (all k xs) y
 among f all more [] k i n x y there number listed = absurd (none-some x there)
-among {X} {Y} f all more (z ∷ zs) k zero n x y there number listed =
-    let same : x ≡ z = sym (same_Some z x there) in
-    let at : n ≡ k = omega (arith, number) in
-    subst (λ (ys : List Y). Contains ys y) (sym (more k z zs))
-    (Contains-append_left (f k z) (all (k + 1) zs) y
-    (subst (λ (w : X). Contains (f k w) y) same (subst (λ (m : ℕ). Contains (f m x) y) at listed)))
-among {X} {Y} f all more (z ∷ zs) k (suc i) n x y there number listed =
-    subst (λ (ys : List Y). Contains ys y) (sym (more k z zs))
-    (Contains-append_right (f k z) (all (k + 1) zs) y (among f all more zs (k + 1) i n x y there (omega (arith, number)) listed))
+among f all more (z ∷ zs) k zero n x y there number listed =
+    let at : k ≡ n = omega (arith, number) in
+    rw (more k z zs) (Contains-append_left (f k z) (all (k + 1) zs) y (rw (same_Some z x there, at) listed))
+among f all more (z ∷ zs) k (suc i) n x y there number listed =
+    rw (more k z zs) (Contains-append_right (f k z) (all (k + 1) zs) y (among f all more zs (k + 1) i n x y there (omega (arith, number)) listed))
 
 pub listed : (objects : List LoadedObject) (p : RelocationPlace) (r : Relocation) → IsRelocationAt objects p r → Contains (relocations objects) r
 listed objects p r at =
@@ -33,12 +29,11 @@ listed objects p r at =
     let h = at.h in
     let n = p.object in
     let entries = relas_of o.bytes h in
+    let x = relocation_of n o h.sh_info p.entry in
     let in_section =
     Contains-map (relocation_of n o h.sh_info) (filter is_some_kind entries) p.entry
     (Contains-filter is_some_kind entries p.entry (Contains-from_slice_get entries p.number p.entry at.at.entry) at.at.some_kind) in
     let of_section = λ (k : ℕ) (s : SectionHeader). cond (is_kept_rela o k s) (relocations_in n o s) [] in
     let in_object =
-    among of_section (relocations_behind n o) (λ k s ss. refl) (sections o.bytes) 0 p.table p.table h (relocation_of n o h.sh_info p.entry) at.at.table (omega arith)
-    (subst (λ b. Contains (cond b (relocations_in n o h) []) (relocation_of n o h.sh_info p.entry)) (sym at.at.kept) in_section) in
-    subst (Contains (relocations objects)) (sym at.relocation)
-    (among relocations_from relocations_of (λ k x xs. refl) objects 0 n n o (relocation_of n o h.sh_info p.entry) at.at.object (omega arith) in_object)
+    among of_section (relocations_behind n o) (λ k s ss. refl) (sections o.bytes) 0 p.table p.table h x at.at.table (omega arith) (rw at.at.kept in_section) in
+    rw at.relocation (among relocations_from relocations_of (λ k x xs. refl) objects 0 n n o x at.at.object (omega arith) in_object)

@@ -5,6 +5,7 @@ use crate::relocation_places::RelocationPlace;
 use crate::text::{Called, Name};
 use std::fmt;
 use std::fmt::{Formatter, Write};
+use thiserror::Error;
 
 /// A relocation, which reads as its number, that of its section, its type, the number of its symbol and, where this is wanted,
 /// the name of that.
@@ -16,14 +17,7 @@ impl fmt::Display for RelocationEntry<'_, '_> {
         let place = self.0;
         let (table, number, symbol) = (place.table, place.number, place.entry.symbol());
         let kind = RelocationType(place.entry.kind());
-        let name = Called(
-            "",
-            if self.1 {
-                Some(place.symbol_name)
-            } else {
-                None
-            },
-        );
+        let name = Called("", self.1.then_some(place.symbol_name));
         write!(
             f,
             "relocation {number} of section {table}, {kind}, to symbol {symbol}{name}"
@@ -45,40 +39,37 @@ impl fmt::Display for RelocationSymbol<'_, '_> {
 }
 
 /// Why a relocation isn't lawful.
-#[derive(Clone, Copy, Debug, PartialEq, Eq)]
+#[derive(Clone, Copy, Debug, PartialEq, Eq, Error)]
 pub enum RelocationFault {
     /// Its symbol has no definition, and needs one.
+    #[error("not defined")]
     Undefined,
     /// It names a LOCAL symbol of a section that isn't kept.
+    #[error("LOCAL in a section that is not loaded")]
     RefToDropped,
     /// Its type is no kind.
+    #[error("not a type of relocation that is linked")]
     RelocKind,
     /// Its field isn't inside its section.
+    #[error("the field is not inside its section")]
     FieldOutside,
     /// Its kind isn't for what its symbol is, of thread-local storage or not.
+    #[error("thread-local, or not, against the relocation's type")]
     TlsMismatch,
     /// It uses a bound of an output name of several output sections.
+    #[error("a bound of an output name of several output sections")]
     MixedSection,
 }
 
-/// What is wrong with a relocation, which is at a place.
+/// What is wrong with a relocation, which is at a place; where it is about the symbol, with that in front.
 #[derive(Clone, Copy)]
 pub struct FaultOf<'p, 'a>(pub RelocationFault, pub &'p RelocationPlace<'a>);
 
 impl fmt::Display for FaultOf<'_, '_> {
     fn fmt<W: Write>(&self, f: &mut Formatter<W>) -> fmt::Result {
-        let text = match self.0 {
-            RelocationFault::RelocKind => {
-                return f.write_str("not a type of relocation that is linked");
-            }
-            RelocationFault::FieldOutside => {
-                return f.write_str("the field is not inside its section");
-            }
-            RelocationFault::Undefined => "not defined",
-            RelocationFault::RefToDropped => "LOCAL in a section that is not loaded",
-            RelocationFault::TlsMismatch => "thread-local, or not, against the relocation's type",
-            RelocationFault::MixedSection => "a bound of an output name of several output sections",
-        };
-        write!(f, "{} is {text}", RelocationSymbol(self.1))
+        match self.0 {
+            RelocationFault::RelocKind | RelocationFault::FieldOutside => write!(f, "{}", self.0),
+            fault => write!(f, "{} is {fault}", RelocationSymbol(self.1)),
+        }
     }
 }
