@@ -1,5 +1,5 @@
 -- Each place carries the cause of its error: by what the error's own cause gives of the phase, and by what the place says.
-use Rattle.std.proofs.Common.{◌≡◌, ◌∙◌, ◌⊎◌, inl, inr, ℕ, Bool, true, List, Ok, All, ap, get_or, take, subst, sym}
+use Rattle.std.proofs.Common.{◌≡◌, ◌∙◌, ◌⊎◌, inl, inr, ℕ, Bool, true, List, Ok, All, ap, take, subst, sym}
 use Rattle.std.specs.List.{items_where_true}
 use Rattle.std.specs.List.Retain.{IsFiltered}
 use Rattle.std.proofs.lemmas.Grind.{get_or_picked}
@@ -66,19 +66,13 @@ archives words p is s = record { before = record { words_are = is; files_are = s
 
 -- what is said of words isn't said of a plan, and so on
 by_words : {A : Type 0} {B : Plan → Type 0} {C : LoadedPlan → Type 0} → A ⊎ ((p : Plan) × B p × ⊥) ⊎ ((l : LoadedPlan) × C l × ⊥) → A
-by_words (inl a) = a
-by_words (inr (inl b)) = absurd b.2
-by_words (inr (inr c)) = absurd c.2
+by_words = elim [ inl a ↦ a | inr (inl b) ↦ absurd b.2 | inr (inr c) ↦ absurd c.2 ]
 
 of_plan : {A : Type 0} {C : LoadedPlan → Type 0} → ⊥ ⊎ A ⊎ ((l : LoadedPlan) × C l × ⊥) → A
-of_plan (inl e) = absurd e
-of_plan (inr (inl a)) = a
-of_plan (inr (inr c)) = absurd c.2
+of_plan = elim [ inl e ↦ absurd e | inr (inl a) ↦ a | inr (inr c) ↦ absurd c.2 ]
 
 of_loaded : {A : Type 0} {B : Plan → Type 0} → ⊥ ⊎ ((p : Plan) × B p × ⊥) ⊎ A → A
-of_loaded (inl e) = absurd e
-of_loaded (inr (inl b)) = absurd b.2
-of_loaded (inr (inr a)) = a
+of_loaded = elim [ inl e ↦ absurd e | inr (inl b) ↦ absurd b.2 | inr (inr a) ↦ a ]
 
 caused : (files : List File) (words : List (List ℕ)) (x : Place) → Given files words x → Says files words x → CauseOf files words x
 caused files words (place.Word number f) g s = (by_words s).refused
@@ -130,10 +124,9 @@ pub all_kept :
     IsFiltered R f xs ys → zs ≡ take n ys → ((x : Place) (b : Bool) (g : F) → R f x b g → (b ≡ true → IsOf e x) × (g ≡ f)) →
     Cause files words e → All (Says files words) xs → All (Holds files words) zs
 all_kept R f files words e xs ys zs n filtered taken tests cause says =
-    let of = All-from_retain R (IsOf e) f tests xs ys filtered in
-    let picked : All (Says files words) (items_where_true filtered.0 xs) = λ k d within.
-    let p = get_or_picked filtered.0 xs k d within in subst (Says files words) (sym p.1.2) (says p.1.0 d p.1.1) in
-    let said = subst (All (Says files words)) (sym filtered.4) picked in
-    let hold : All (Holds files words) ys = λ i d within.
-    record { says = said i d within; cause = caused files words (get_or ys i d) ((of i d within).given files words cause) (said i d within) } in
-    subst (All (Holds files words)) (sym taken) (All-take (Holds files words) n ys hold)
+    let told : All (IsOf e) ys = All-from_retain R (IsOf e) f tests xs ys filtered in
+    let of = rw filtered.4 at told in
+    rw (taken, filtered.4) (All-take (Holds files words) n (items_where_true filtered.0 xs) (λ k d within.
+    let p = (get_or_picked filtered.0 xs k d within).1 in
+    let said = subst (Says files words) (sym p.2) (says p.0 d p.1) in
+    record { says = said; cause = caused files words _ ((of k d within).given files words cause) said }))

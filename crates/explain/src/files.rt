@@ -4,7 +4,6 @@ ghost use Rattle.std.specs.List.{slice_get};
 ghost use Rattle.command.specs.Views.{item_of};
 ghost use Rattle.elf_model.specs.Inputs.Command as command;
 ghost use Rattle.elf_model.specs.Inputs.Files.{File, files_of};
-ghost use Rattle.search.specs.Faults.{IsRefusedIn};
 ghost use Rattle.explain.specs.Places.{AreSo, HoldsOf, IsOpened, OfPlan};
 
 use crate::place::{Added, Found, Place};
@@ -12,7 +11,7 @@ use bad_parts::bad_part;
 use command::{Item, Plan};
 use elf_model::InputFile;
 use opening::{FileIndex, OpenFault, OpenedItem, find_source, read_input};
-use search::{Reached, RefusedObject, SearchFault, refused_object};
+use search::{Reached, SearchFault, refused_object};
 use std::alloc::{AllocError, Global};
 
 /// A place at which something is wrong, where there is one.
@@ -74,11 +73,13 @@ fn wrong_item<'a>(
     bad_archive(alloc, &opened)
 }
 
-/// The place of an object at which loading stops.
-fn refused_place<'a>(alloc: Global, object: &RefusedObject<'a>) -> Wrong<'a>
-    ensures { (files : List File) (plan : command.Plan) →
-        IsRefusedIn files plan (Some object.now) → IfOk result (λ o. IfSome o (HoldsOf files plan)) }
+/// The object of a plan at which loading stops, where it stops at one.
+fn refused_place<'a>(alloc: Global, files: &'a [InputFile], plan: &Plan<'a>) -> Wrong<'a>
+    ensures { IfOk result (λ o. IfSome o (HoldsOf (files_of files.entry.now) plan.now)) }
 {
+    let Some(object) = refused_object(alloc, plan, files)? else {
+        return Ok(None);
+    };
     match object.fault {
         SearchFault::BadObject(fault) => {
             let part = bad_part(alloc, object.at.bytes, fault)?;
@@ -92,7 +93,6 @@ fn refused_place<'a>(alloc: Global, object: &RefusedObject<'a>) -> Wrong<'a>
 /// Adds why a plan isn't loaded: the items that have no file, where each has one the archives that are none or can't be searched,
 /// and the object at which loading stops, where it stops at one.
 pub fn add_unloaded<'a>(
-    alloc: Global,
     found: &mut Found<'a>,
     files: &'a [InputFile],
     plan: &Plan<'a>,
@@ -106,12 +106,10 @@ pub fn add_unloaded<'a>(
         SearchFault::FileMissing => false,
         _ => true,
     };
+    let alloc = found.alloc;
     let index = FileIndex::new(alloc, files)?;
     for i in 0..plan.items.len() {
         found.add(wrong_item(alloc, &index, plan, i, open)?)?;
     }
-    match refused_object(alloc, plan, files)? {
-        Some(object) => found.add(refused_place(alloc, &object)?),
-        None => Ok(()),
-    }
+    found.add(refused_place(alloc, files, plan)?)
 }

@@ -101,10 +101,8 @@ fn asks_for_code(place: &Place<'_>) -> bool {
 
 /// Whether an object file has a symbol by which gcc says that it has no code, only data for optimization at link time.
 fn is_slim(alloc: Global, file: &InputFile) -> bool {
-    match ObjectFile::read(alloc, View::new(file.bytes.as_slice())) {
-        Ok(object) => (0..object.symbols().len()).any(|j| object.symbol_name(j) == SLIM),
-        Err(_) => false,
-    }
+    let object = ObjectFile::read(alloc, View::new(file.bytes.as_slice()));
+    object.is_ok_and(|object| (0..object.symbols().len()).any(|j| object.symbol_name(j) == SLIM))
 }
 
 /// Writes the places that were found, at most so many lines, and how many more places there are. Of references to one undefined
@@ -116,9 +114,9 @@ pub fn write_places<W: Write>(
     found: &Found<'_>,
     most: u64,
 ) -> io::Result<()> {
-    let places = found.places();
+    let places = found.places.as_slice();
     let mut lines: u64 = 0;
-    let mut more = found.more();
+    let mut more = found.more;
     for (i, place) in places.iter().enumerate() {
         let before = undefined_name(place).map_or(0, |name| references(&places[..i], name));
         if lines >= most {
@@ -132,11 +130,8 @@ pub fn write_places<W: Write>(
         writeln!(out, "and {more} more places")?;
     }
     if places.iter().any(asks_for_code) {
-        for file in inputs
-            .files
-            .iter()
-            .filter(|file| is_slim(inputs.alloc, file))
-        {
+        let files = inputs.files.iter();
+        for file in files.filter(|file| is_slim(inputs.alloc, file)) {
             let name = Name(file.name.as_bytes());
             writeln!(
                 out,

@@ -19,28 +19,23 @@ use search::{Loaded, load};
 use std::alloc::{AllocError, Global};
 
 /// Adds why what is loaded, whose names are resolved, isn't linked: by its references, its entry, its layout, or its values.
-fn add_unlinked<'a>(
-    alloc: Global,
-    found: &mut Found<'a>,
-    loaded: &Loaded<'a>,
-    resolved: &Resolved<'a>,
-) -> Added
+fn add_unlinked<'a>(found: &mut Found<'a>, loaded: &Loaded<'a>, resolved: &Resolved<'a>) -> Added
     requires resolved { resolved.now ≡ loaded.now.objects }
     requires base { IsBase loaded.now.plan.base }
     requires kinds { AreLawfulKinds loaded.now.objects }
     requires before { AreSo (OfLoaded loaded.now) found.old.places.items }
     ensures { OnOk result (AreSo (OfLoaded loaded.now) found.new.places.items) }
 {
+    let alloc = found.alloc;
     match references(alloc, loaded, resolved) {
         Ok(_) => {}
         Err(RelocFault::Memory) => return Err(AllocError),
         Err(RelocFault::OverlappingFields) => {
-            return add_wanted(alloc, found, Wanted::Overlaps, loaded);
+            return add_wanted(found, Wanted::Overlaps, loaded);
         }
         Err(_) => {
             let mixed = mixed_names(alloc, resolved)?;
-            let wanted = Wanted::UnlawfulEntries(resolved, &mixed);
-            return add_wanted(alloc, found, wanted, loaded);
+            return add_wanted(found, Wanted::UnlawfulEntries(resolved, &mixed), loaded);
         }
     }
     let entry = loaded.plan().entry;
@@ -52,44 +47,40 @@ fn add_unlinked<'a>(
         Ok(placement) => {
             let pointer = pointer_of(&placement);
             let wanted = Wanted::UnfitEntries(resolved, &placement, &slots, pointer);
-            add_wanted(alloc, found, wanted, loaded)
+            add_wanted(found, wanted, loaded)
         }
         Err(LayoutFault::Memory) => Err(AllocError),
-        Err(_) => add_wanted(alloc, found, Wanted::LargeSections, loaded),
+        Err(_) => add_wanted(found, Wanted::LargeSections, loaded),
     }
 }
 
 /// Adds why what is loaded isn't linked.
-fn add_loaded<'a>(alloc: Global, found: &mut Found<'a>, loaded: &Loaded<'a>) -> Added
+fn add_loaded<'a>(found: &mut Found<'a>, loaded: &Loaded<'a>) -> Added
     requires base { IsBase loaded.now.plan.base }
     requires before { AreSo (OfLoaded loaded.now) found.old.places.items }
     ensures { OnOk result (AreSo (OfLoaded loaded.now) found.new.places.items) }
 {
     let Ok(()) = kinds(loaded) else {
-        return add_wanted(alloc, found, Wanted::UnlawfulSections, loaded);
+        return add_wanted(found, Wanted::UnlawfulSections, loaded);
     };
-    match resolve(alloc, loaded) {
-        Ok(resolved) => add_unlinked(alloc, found, loaded, &resolved),
+    match resolve(found.alloc, loaded) {
+        Ok(resolved) => add_unlinked(found, loaded, &resolved),
         Err(ResolveFault::Memory) => Err(AllocError),
-        Err(ResolveFault::BadCommon) => add_wanted(alloc, found, Wanted::UnsoundCommons, loaded),
-        Err(ResolveFault::BadSymbol) => add_wanted(alloc, found, Wanted::UnsoundSymbols, loaded),
+        Err(ResolveFault::BadCommon) => add_wanted(found, Wanted::UnsoundCommons, loaded),
+        Err(ResolveFault::BadSymbol) => add_wanted(found, Wanted::UnsoundSymbols, loaded),
         Err(ResolveFault::Duplicate(name)) => {
-            add_wanted(alloc, found, Wanted::Definitions(&name), loaded)
+            add_wanted(found, Wanted::Definitions(&name), loaded)
         }
     }
 }
 
 /// Adds why the link of files that words name is refused.
-fn add_reasons<'a>(
-    alloc: Global,
-    found: &mut Found<'a>,
-    files: &'a [InputFile],
-    words: &'a [String],
-) -> Added
+fn add_reasons<'a>(found: &mut Found<'a>, files: &'a [InputFile], words: &'a [String]) -> Added
     requires { (g : Ground) → AreSo g found.old.places.items }
     ensures { OnOk result (All
         (Says (files_of files.now) (words_of words.now)) found.new.places.items) }
 {
+    let alloc = found.alloc;
     let plan = match read_words(alloc, words) {
         Ok(plan) => plan,
         Err(CmdFault::Memory) => return Err(AllocError),
@@ -99,8 +90,8 @@ fn add_reasons<'a>(
         }
     };
     match load(alloc, &plan, files) {
-        Ok(loaded) => add_loaded(alloc, found, &loaded),
-        Err(fault) => add_unloaded(alloc, found, files, &plan, fault),
+        Ok(loaded) => add_loaded(found, &loaded),
+        Err(fault) => add_unloaded(found, files, &plan, fault),
     }
 }
 
@@ -128,7 +119,7 @@ pub fn explain<'a>(
         LinkError::Memory => Err(AllocError),
         _ => {
             let mut found = Found::new(alloc, most);
-            add_reasons(alloc, &mut found, files, words)?;
+            add_reasons(&mut found, files, words)?;
             found.told(error, most)
         }
     }

@@ -104,11 +104,12 @@ impl<'a> Place<'a> {
 /// Whether there was memory for what was to be added.
 pub(crate) type Added = Result<(), AllocError>;
 
-/// The first places that were found, and how many more.
+/// The first places that were found, in the order in which they were found, and how many more.
 #[derive(Drop)]
 pub struct Found<'a> {
-    places: Vec<Place<'a>>,
-    more: u64,
+    pub(crate) alloc: Global,
+    pub places: Vec<Place<'a>>,
+    pub more: u64,
     most: usize,
 }
 
@@ -118,6 +119,7 @@ impl<'a> Found<'a> {
         ensures { (g : Ground) → AreSo g result.places.items }
     {
         Found {
+            alloc,
             places: Vec::new(alloc),
             more: 0,
             most,
@@ -157,17 +159,5 @@ impl<'a> Found<'a> {
         }
         found.places.push(Place::Refused(error))?;
         Ok(found)
-    }
-
-    /// The places that are kept, in the order in which they were found.
-    pub fn places(&self) -> &[Place<'a>]
-        ensures { result.now ≡ self.now.places.items }
-    {
-        self.places.as_slice()
-    }
-
-    /// How many more were found.
-    pub fn more(&self) -> u64 {
-        self.more
     }
 }

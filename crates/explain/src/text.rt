@@ -124,11 +124,8 @@ struct At<'i, 'p, 'a> {
 impl fmt::Display for At<'_, '_, '_> {
     fn fmt<W: Write>(&self, f: &mut Formatter<W>) -> fmt::Result {
         let (inputs, path) = (self.inputs, self.object.path);
-        write!(
-            f,
-            "{}",
-            ObjectName::new(inputs.files, path, self.object.offset)
-        )?;
+        let name = ObjectName::new(inputs.files, path, self.object.offset);
+        write!(f, "{name}")?;
         let words = inputs.words.iter();
         if words.filter(|w| names_file(w.as_str(), path)).count() > 1 {
             write!(f, " (item {})", self.object.item)?;
@@ -188,12 +185,6 @@ impl<'a> At<'_, '_, 'a> {
         self.entry(f, RelocationEntry(place, false))?;
         f.write_str(")")
     }
-
-    /// Where a relocation is, and which entry, with its symbol's name.
-    fn whole<W: Write>(self, f: &mut Formatter<W>, place: &RelocationPlace<'_>) -> fmt::Result {
-        self.field(f, place)?;
-        self.entry(f, RelocationEntry(place, true))
-    }
 }
 
 /// A place of inputs, which reads as a line without its end.
@@ -204,85 +195,18 @@ pub struct PlaceText<'i, 'p, 'a> {
 }
 
 impl PlaceText<'_, '_, '_> {
-    /// A place of sections, symbols or relocations.
-    fn linked<W: Write>(&self, f: &mut Formatter<W>) -> fmt::Result {
+    /// A place of files that can't be read as they have to be.
+    fn file<W: Write>(&self, f: &mut Formatter<W>) -> fmt::Result {
         let inputs = self.inputs;
         match self.place {
-            Place::Section(object, section) => {
-                let (at, header) = (At { inputs, object }, &section.entry);
-                let (kind, flags) = (SectionType(header.sh_type), SectionFlags(header.sh_flags));
-                let hint = SECTION_HINTS
-                    .iter()
-                    .find(|hint| header.sh_flags & hint.0 != 0);
-                write!(f, "{at}section {} {}: ", section.number, Name(section.name))?;
-                write!(
-                    f,
-                    "{kind}, {flags}: not linked{}",
-                    hint.map_or("", |hint| hint.1)
-                )
-            }
-            Place::Large(object, section) => {
-                let (at, size) = (At { inputs, object }, section.entry.sh_size);
-                write!(f, "{at}section {} {}: ", section.number, Name(section.name))?;
-                write!(
-                    f,
-                    "{size:#x} bytes, more than the addresses from the base on up to 2^46"
-                )
-            }
-            Place::Symbol(object, symbol, fault) => {
-                let (at, number) = (At { inputs, object }, symbol.number);
-                let section = Called("of ", at.section_of(number as usize));
-                write!(
-                    f,
-                    "{at}symbol {number}{}{section}: {fault}",
-                    Called("", Some(symbol.name))
-                )
-            }
-            Place::Relocation(object, place, fault) => {
-                let (at, hint) = (At { inputs, object }, hint(place.entry.kind(), *fault));
-                at.field(f, place)?;
-                write!(f, "{}{hint}", FaultOf(fault_of(*fault), place))?;
-                at.note(f, place)
-            }
-            Place::Overlap(object, first, second) => {
-                let at = At { inputs, object };
-                at.whole(f, first)?;
-                f.write_str(": its field shares a byte with that of ")?;
-                at.whole(f, second)
-            }
-            Place::Value(object, place, value, address) => {
-                let (at, symbol) = (At { inputs, object }, RelocationSymbol(place));
-                at.field(f, place)?;
-                write!(f, "the value {value:#x} for {symbol} does not fit the ")?;
-                write!(f, "field at {address:#x}")?;
-                write_fitting(f, place.entry.kind())?;
-                at.note(f, place)
-            }
-            _ => Ok(()),
-        }
-    }
-}
-
-impl fmt::Display for PlaceText<'_, '_, '_> {
-    fn fmt<W: Write>(&self, f: &mut Formatter<W>) -> fmt::Result {
-        let inputs = self.inputs;
-        match self.place {
-            Place::Word(None, fault) => write!(f, "the words together: {fault}"),
-            Place::Word(Some(number), fault) => {
-                let word = inputs.words.get(*number as usize);
-                let word = Called("", word.map(|word| word.as_bytes()));
-                write!(f, "word {number}{word}: {fault}")
-            }
             Place::Missing(number, Source::Path(path)) => {
                 let name = Name(path.as_bytes());
                 write!(f, "{name}: item {number}: there is no such file")
             }
             Place::Missing(number, Source::Library(name)) => {
                 let name = Name(name.as_bytes());
-                write!(
-                    f,
-                    "-l{name}: item {number}: no directory of -L has lib{name}.a"
-                )
+                write!(f, "-l{name}: item {number}: no directory of -L has ")?;
+                write!(f, "lib{name}.a")
             }
             Place::Archive(object, fault) => {
                 let at = At { inputs, object };
@@ -302,18 +226,91 @@ impl fmt::Display for PlaceText<'_, '_, '_> {
                 at.kind(f, true)
             }
             Place::Groups(object, fault) => write!(f, "{}{fault}", At { inputs, object }),
-            Place::Entry(name) => {
-                let name = Name(name.as_bytes());
+            _ => self.entry(f),
+        }
+    }
+
+    /// A place of a section or a symbol.
+    fn entry<W: Write>(&self, f: &mut Formatter<W>) -> fmt::Result {
+        let inputs = self.inputs;
+        match self.place {
+            Place::Section(object, section) => {
+                let (at, header) = (At { inputs, object }, &section.entry);
+                let (kind, flags) = (SectionType(header.sh_type), SectionFlags(header.sh_flags));
+                let mut hints = SECTION_HINTS.iter();
+                let hint = hints.find(|hint| header.sh_flags & hint.0 != 0);
+                let hint = hint.map_or("", |hint| hint.1);
+                write!(f, "{at}section {} {}: ", section.number, Name(section.name))?;
+                write!(f, "{kind}, {flags}: not linked{hint}")
+            }
+            Place::Large(object, section) => {
+                let (at, size) = (At { inputs, object }, section.entry.sh_size);
+                write!(f, "{at}section {} {}: ", section.number, Name(section.name))?;
                 write!(
                     f,
-                    "the entry {name} has no definition outside thread-local storage"
-                )
+                    "{size:#x} bytes, more than the addresses from the base on "
+                )?;
+                f.write_str("up to 2^46")
+            }
+            Place::Symbol(object, symbol, fault) => {
+                let (at, number) = (At { inputs, object }, symbol.number);
+                let section = Called("of ", at.section_of(number as usize));
+                let name = Called("", Some(symbol.name));
+                write!(f, "{at}symbol {number}{name}{section}: {fault}")
+            }
+            _ => self.relocation(f),
+        }
+    }
+
+    /// A place of a relocation, or of two.
+    fn relocation<W: Write>(&self, f: &mut Formatter<W>) -> fmt::Result {
+        let inputs = self.inputs;
+        match self.place {
+            Place::Relocation(object, place, fault) => {
+                let (at, hint) = (At { inputs, object }, hint(place.entry.kind(), *fault));
+                at.field(f, place)?;
+                write!(f, "{}{hint}", FaultOf(fault_of(*fault), place))?;
+                at.note(f, place)
+            }
+            Place::Overlap(object, first, second) => {
+                let at = At { inputs, object };
+                at.field(f, first)?;
+                at.entry(f, RelocationEntry(first, true))?;
+                f.write_str(": its field shares a byte with that of ")?;
+                at.field(f, second)?;
+                at.entry(f, RelocationEntry(second, true))
+            }
+            Place::Value(object, place, value, address) => {
+                let (at, symbol) = (At { inputs, object }, RelocationSymbol(place));
+                at.field(f, place)?;
+                write!(f, "the value {value:#x} for {symbol} does not fit the ")?;
+                write!(f, "field at {address:#x}")?;
+                write_fitting(f, place.entry.kind())?;
+                at.note(f, place)
+            }
+            _ => Ok(()),
+        }
+    }
+}
+
+impl fmt::Display for PlaceText<'_, '_, '_> {
+    fn fmt<W: Write>(&self, f: &mut Formatter<W>) -> fmt::Result {
+        match self.place {
+            Place::Word(None, fault) => write!(f, "the words together: {fault}"),
+            Place::Word(Some(number), fault) => {
+                let word = self.inputs.words.get(*number as usize);
+                let word = Called("", word.map(|word| word.as_bytes()));
+                write!(f, "word {number}{word}: {fault}")
+            }
+            Place::Entry(name) => {
+                write!(f, "the entry {} has no definition ", Name(name.as_bytes()))?;
+                f.write_str("outside thread-local storage")
             }
             Place::Refused(LinkError::TooLarge) => f.write_str(
                 "all together: the addresses end above 2^46, or the image has 2^32 bytes or more",
             ),
             Place::Refused(error) => write!(f, "all together: {error}"),
-            _ => self.linked(f),
+            _ => self.file(f),
         }
     }
 }

@@ -230,7 +230,6 @@ fn overlap<'a>(loaded: &Loaded<'a>, k: usize, first: &EntryAt, second: &EntryAt)
 
 /// Adds what is wrong with object `k`.
 fn add_object<'a>(
-    alloc: Global,
     found: &mut Found<'a>,
     wanted: Wanted<'_, 'a>,
     loaded: &Loaded<'a>,
@@ -243,6 +242,7 @@ fn add_object<'a>(
     let Some(one) = object_at(loaded, k) else {
         return Ok(());
     };
+    let alloc = found.alloc;
     match wanted {
         Wanted::UnlawfulSections | Wanted::LargeSections => {
             for n in 0..one.kept_sections().len() {
@@ -284,18 +284,13 @@ fn add_object<'a>(
 }
 
 /// Adds what is wrong with the objects that are loaded.
-pub fn add_wanted<'a>(
-    alloc: Global,
-    found: &mut Found<'a>,
-    wanted: Wanted<'_, 'a>,
-    loaded: &Loaded<'a>,
-) -> Added
+pub fn add_wanted<'a>(found: &mut Found<'a>, wanted: Wanted<'_, 'a>, loaded: &Loaded<'a>) -> Added
     requires asked { MayBeAsked loaded.now wanted }
     requires before { AreSo (OfLoaded loaded.now) found.old.places.items }
     ensures { OnOk result (AreSo (OfLoaded loaded.now) found.new.places.items) }
 {
     for k in 0..loaded.objects().len() {
-        add_object(alloc, found, wanted, loaded, k)?;
+        add_object(found, wanted, loaded, k)?;
     }
     Ok(())
 }

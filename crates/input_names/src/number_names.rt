@@ -42,14 +42,13 @@ pub struct SectionType(pub u32);
 
 impl fmt::Display for SectionType {
     fn fmt<W: fmt::Write>(&self, f: &mut fmt::Formatter<W>) -> fmt::Result {
-        let name = match self.0 {
-            0x6fff_4c0b => Some("LLVM_BB_ADDR_MAP"),
-            0x7000_0001 => Some("X86_64_UNWIND"),
-            number => name_in(&SECTION_TYPES, number),
-        };
-        match name {
-            Some(name) => write!(f, "type {name}"),
-            None => write!(f, "type {:#x}", self.0),
+        match self.0 {
+            0x6fff_4c0b => f.write_str("type LLVM_BB_ADDR_MAP"),
+            0x7000_0001 => f.write_str("type X86_64_UNWIND"),
+            number => match name_in(&SECTION_TYPES, number) {
+                Some(name) => write!(f, "type {name}"),
+                None => write!(f, "type {number:#x}"),
+            },
         }
     }
 }

@@ -35,12 +35,6 @@ impl fmt::Display for Called<'_, '_> {
     }
 }
 
-/// The bytes of the first file of a path.
-fn file_named<'f>(files: &'f [InputFile], path: &str) -> Option<&'f [u8]> {
-    let file = files.iter().find(|f| f.name.as_str() == path)?;
-    Some(file.bytes.as_slice())
-}
-
 /// An object of files, which reads as the path of its file and the member that it is, by the offset of the member's header; 0
 /// for a file that is an object.
 #[derive(Clone, Copy)]
@@ -68,10 +62,11 @@ impl fmt::Display for ObjectName<'_> {
         if offset == 0 {
             return Ok(());
         }
-        let Some(file) = file_named(self.files, self.path) else {
+        let mut files = self.files.iter();
+        let Some(file) = files.find(|file| file.name.as_str() == self.path) else {
             return write!(f, "(at {offset:#x})");
         };
-        let name = Name(member_name(file, offset).unwrap_or(&[]));
+        let name = Name(member_name(file.bytes.as_slice(), offset).unwrap_or(&[]));
         write!(f, "({name} at {offset:#x})")
     }
 }

@@ -1,12 +1,10 @@
-use Rattle.std.proofs.Common.{arith, ◌≡◌, ◌∙◌, ◌+◌, List, [], ◌∷◌, ℕ, zero, suc, Some, Option, ap, option_map, sym}
-use Rattle.std.specs.Borrow.{Bor}
+use Rattle.std.proofs.Common.{arith, ◌≡◌, ◌∙◌, ◌+◌, List, [], ◌∷◌, ℕ, zero, suc, Some, ap, refl}
 use Rattle.std.specs.List.{slice_get}
 use Rattle.std.proofs.lemmas.Option.{none-some, same_Some}
 use Rattle.command.specs.Views.{item_of, texts_of}
 use Rattle.elf_model.specs.Inputs.Command.{Item, Plan}
 use Rattle.elf_model.specs.Inputs.Files.{File}
-use Rattle.elf_model.specs.Inputs.Opening.{Opened, opened_from, opened_item}
-use Rattle.opening.specs.Opened.{found_view}
+use Rattle.elf_model.specs.Inputs.Opening.{opened_from, opened_item}
 use Rattle.opening.proofs.OpenedLaws.{opened_is}
 use Rattle.explain.proofs.files.wrong_item.Goals as goal
 
@@ -16,9 +14,8 @@ opened_at :
     slice_get (opened_from files directories k items) i ≡ Some (opened_item files directories n item)
 opened_at files directories k i n [] item there is = absurd (none-some item there)
 opened_at files directories k zero n (x ∷ xs) item there is =
-    let same : x ≡ item = same_Some x item there in
     let number : k ≡ n = omega (arith, is) in
-    ap (λ (m : ℕ). Some (opened_item files directories m x)) number ∙ ap (λ (y : Item). Some (opened_item files directories n y)) same
+    rw (number, same_Some x item there) refl
 opened_at files directories k (suc i) n (x ∷ xs) item there is =
     opened_at files directories (k + 1) i n xs item there (omega (arith, is))
 
@@ -27,11 +24,7 @@ returns c =
     let files = c.args.files.now in
     let plan = c.args.plan.now in
     let i = c.args.i in
-    let it = item_of c.in-Some.item.now in
-    let directories = ap (λ (ds : List (Bor (List ℕ))). texts_of ds) c.deref.ensures.value ∙ ap (λ (p : Plan). p.directories) c.plan.view_is in
-    let is =
-    opened_is files (texts_of c.deref.result.now) i it (found_view (c.in-Some-2.path, c.in-Some-2.bytes))
-    (sym (ap (λ (o : Option (Bor (List ℕ) × Bor (List ℕ))). option_map found_view o) c.in-Some-2.is) ∙ c.in_ok-path.ensures) in
-    c.bad_archive.ensures files plan
-    (opened_at files plan.directories 0 i i plan.items it c.in-Some.ensures (omega arith)
-    ∙ ap (λ (o : Opened). Some o) (ap (λ (ds : List (List ℕ)). opened_item files ds i it) (sym directories) ∙ is.0))
+    let directories = ap texts_of c.deref.ensures.value ∙ ap (λ (p : Plan). p.directories) c.plan.view_is in
+    let found = rw (c.in-Some-2.is, directories) at c.in_ok-path.ensures in
+    let is = opened_is files plan.directories i (item_of c.in-Some.item.now) _ found in
+    c.bad_archive.ensures files plan (opened_at files plan.directories 0 i i plan.items _ c.in-Some.ensures (omega arith) ∙ ap Some is.0)

@@ -1,12 +1,9 @@
-use Rattle.std.proofs.Common.{◌≡◌, ◌∙◌, ap, rules, subst, sym}
-use Rattle.elf_model.specs.Link.Pieces.{AreLawfulKinds}
-use Rattle.elf_model.specs.Link.Slots.{slots}
-use Rattle.layout.specs.Placements.{Basis}
+use Rattle.std.proofs.Common.{◌≡◌, rules}
 use Rattle.explain.specs.Places.{OfLoaded, basis_of}
 use Rattle.explain.proofs.link.add_unlinked.Goals as goal
 
 pub pointer_of-pointer-requires : goal.pointer_of-pointer-requires
-pointer_of-pointer-requires c = subst (λ (b : Basis). AreLawfulKinds b.objects) (sym c.in-Ok-place.ensures.exact) c.requires.kinds
+pointer_of-pointer-requires c = rw c.in-Ok-place.ensures.exact c.requires.kinds
 
 pub add_wanted-requires-in-Ok-place-clause-asked : goal.add_wanted-requires-in-Ok-place-clause-asked
 add_wanted-requires-in-Ok-place-clause-asked c =
@@ -14,8 +11,8 @@ add_wanted-requires-in-Ok-place-clause-asked c =
     record {
       resolved = c.requires.resolved;
       placed = placed;
-      kinds = subst (λ (b : Basis). AreLawfulKinds b.objects) (sym placed) c.requires.kinds;
-      slots_are = c.in_ok-slots.ensures.slots ∙ ap (λ (b : Basis). slots b.objects) (sym placed);
+      kinds = rw placed c.requires.kinds;
+      slots_are = rw placed c.in_ok-slots.ensures.slots;
       slots_of = c.in_ok-slots.ensures.objects;
       pointer_is = c.pointer_of-pointer.ensures;
     }
