@@ -248,7 +248,6 @@ fn add_object<'a>(
             for n in 0..one.kept_sections().len() {
                 found.add(wrong_section(loaded, wanted, k, n))?;
             }
-            Ok(())
         }
         Wanted::UnlawfulEntries(resolved, mixed) => {
             let referrer = Referrer::new(alloc, resolved, mixed, k, one)?;
@@ -256,7 +255,6 @@ fn add_object<'a>(
             for unlawful in &entries {
                 found.add(unlawful_entry(loaded, &referrer, unlawful))?;
             }
-            Ok(())
         }
         Wanted::UnfitEntries(resolved, placement, slots, pointer) => {
             let valued = Valued::new(alloc, resolved, placement, slots, pointer, k, one)?;
@@ -264,7 +262,6 @@ fn add_object<'a>(
             for unfit in &entries {
                 found.add(unfit_entry(loaded, &valued, unfit))?;
             }
-            Ok(())
         }
         Wanted::Overlaps => {
             let mut entries = kept_entries(alloc, one)?;
@@ -272,15 +269,14 @@ fn add_object<'a>(
             for i in 1..entries.len() {
                 found.add(overlap(loaded, k, &entries[i - 1], &entries[i]))?;
             }
-            Ok(())
         }
         _ => {
             for j in 0..one.object.symbols().len() {
                 found.add(wrong_symbol(loaded, wanted, k, j))?;
             }
-            Ok(())
         }
     }
+    Ok(())
 }
 
 /// Adds what is wrong with the objects that are loaded.
