@@ -226,12 +226,12 @@ impl PlaceText<'_, '_, '_> {
                 at.kind(f, true)
             }
             Place::Groups(object, fault) => write!(f, "{}{fault}", At { inputs, object }),
-            _ => self.entry(f),
+            _ => self.table_entry(f),
         }
     }
 
     /// A place of a section or a symbol.
-    fn entry<W: Write>(&self, f: &mut Formatter<W>) -> fmt::Result {
+    fn table_entry<W: Write>(&self, f: &mut Formatter<W>) -> fmt::Result {
         let inputs = self.inputs;
         match self.place {
             Place::Section(object, section) => {
@@ -248,9 +248,8 @@ impl PlaceText<'_, '_, '_> {
                 write!(f, "{at}section {} {}: ", section.number, Name(section.name))?;
                 write!(
                     f,
-                    "{size:#x} bytes, more than the addresses from the base on "
-                )?;
-                f.write_str("up to 2^46")
+                    "{size:#x} bytes, more than the addresses from the base on up to 2^46"
+                )
             }
             Place::Symbol(object, symbol, fault) => {
                 let (at, number) = (At { inputs, object }, symbol.number);
