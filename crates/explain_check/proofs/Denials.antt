@@ -34,8 +34,7 @@ use Rattle.input_names.specs.RelocationPlaces.{IsRelocationAt}
 use Rattle.input_names.specs.declared.relocation_faults.RelocationFault.{RelocationFault}
 use Rattle.input_names.specs.declared.relocation_faults.RelocationFault.TheVariants as fault
 use Rattle.input_names.specs.declared.relocation_places.RelocationPlace.{RelocationPlace}
-use Rattle.explain_check.specs.Facts.{IsInBlock, IsInner, IsShared, IsThing, IsUnheld, IsUnlawful, ordered_sections, parts_end, piece_of}
-use Rattle.explain_check.specs.Places.{FailsIn, clause_of}
+use Rattle.explain_check.specs.Places.{FailsIn, IsInBlock, IsInner, IsShared, IsThing, IsUnheld, IsUnlawful, clause_of, ordered_sections, parts_end, piece_of}
 use Rattle.explain_check.specs.declared.place.ByteOf.TheVariants as of
 use Rattle.explain_check.specs.declared.place.CheckPlace.{CheckPlace}
 use Rattle.explain_check.specs.declared.place.CheckPlace.TheVariants as place
@@ -46,7 +45,7 @@ use Rattle.explain_check.proofs.WrongSlots.{needless, unserved}
 
 -- what holds of all of a list holds of the one that has a number
 at_number : {X : Type 0} (P : X → Type 0) (xs : List X) (k : ℕ) (x : X) → All P xs → slice_get xs k ≡ Some x → P x
-at_number P xs k x all there = subst P (get_or_from_slice_get xs k x x there) (all k x (slice_get_within xs k x there))
+at_number P xs k x all there = All-contains P xs x all (Contains-from_slice_get xs k x there)
 
 -- what an option has where it has something that is made of it
 some_of : {X Y : Type 0} (o : Option X) (v : X → Y) (y : Y) → option_map v o ≡ Some y → (x : X) × (o ≡ Some x) × (v x ≡ y)
@@ -256,8 +255,8 @@ denies s (place.Outside p) h right = h.wrong (within_at s p.thread p.number p.th
 denies s (place.Shared p q) h right = shared_denied s p q h right
 denies s (place.Far p q) h right = far_denied s p q h right
 denies s (place.Unheld p segment) h right = unheld_denied s p segment h right
-denies s (place.First address) h right = h.wrong (h.is_address ∙ right.first)
-denies s (place.Got there) h right = not_itself there (h.is_there ∙ (right.present ∙ h.wanted))
+denies s (place.First address) h right = h.1 (h.0 ∙ right.first)
+denies s (place.Got there) h right = not_itself there (h.0 ∙ (right.present ∙ h.1))
 denies s (place.SlotLine k first q) h right = needless s k first q h right.slots
 denies s (place.NoSlot p q) h right = unserved s p q h right.slots
 denies s (place.Number number.GotSize m n) h right =
@@ -286,8 +285,8 @@ denies s (place.Number number.NamesSection m n) h right =
     let e = header_right s (λ x. x.e_shstrndx) 3 (λ line t. t.names_section) (λ x. x.names) right in
     h.wrong (sym (same_Some _ m h.is_there) ∙ (e ∙ same_Some _ n h.is_wanted))
 denies s (place.Byte (of.Got got) p) h right =
-    let held = at_some (Got s) s.map.got got right.held h.wanted.got_is in
-    h.wrong (h.there ∙ (held.bytes p.offset h.wanted.below ∙ sym h.wanted.wanted_is))
+    let held = at_some (Got s) s.map.got got right.held h.wanted.0 in
+    h.wrong (h.there ∙ (held.bytes p.offset h.wanted.1.0 ∙ sym h.wanted.1.1))
 denies s (place.Byte (of.Piece i q relocation) p) h right =
     let held = at_number (HoldsPiece (objects_of s) (where_of s) s.image) (placed_of s) i (placed_view q) right h.wanted.piece in
     h.wrong (h.there ∙ (held.bytes p.offset h.wanted.below ∙ sym h.wanted.wanted_is))
@@ -296,13 +295,13 @@ denies s (place.Byte (of.Fill rights) p) h right =
     let is = right.fill p.offset c.0 c.1 h.wanted.outside ∙ ap fill_of c.2 in
     h.wrong (h.there ∙ (ap (option_map (λ x. x.byte)) c.1 ∙ (ap Some is ∙ sym h.wanted.wanted_is)))
 denies s (place.Byte of.Gap p) h right =
-    h.wrong (h.there ∙ (ap Some (right.gaps p.offset h.wanted.below h.wanted.outside) ∙ sym h.wanted.wanted_is))
+    h.wrong (h.there ∙ (ap Some (right.gaps p.offset h.wanted.0 h.wanted.1.0) ∙ sym h.wanted.1.1))
 denies s (place.Byte (of.Tail end entry) p) h right =
     let t = told_right s s.map.symtab h.wanted.told right.held in
     h.wrong (h.there ∙ (ap (λ (xs : List ℕ). slice_get xs p.offset) t.1.bytes ∙ sym h.wanted.is_wanted))
 denies s (place.ThreadHeader there wanted) h right = h.wrong right.headers
 denies s (place.InThreadBlock name at start end) h right = inner_denied s name at start end h right
-denies s (place.ThreadBytes x) h right = h.wrong (at_number (HoldsInitial (loads s.image)) (thread_blocks s.image) 0 x right.held h.there)
+denies s (place.ThreadBytes x) h right = h.1 (at_number (HoldsInitial (loads s.image)) (thread_blocks s.image) 0 x right.held h.0)
 denies s (place.Relocation p f) h right =
     unlawful_denied (objects_of s) h.r f h.wrong (at_place (IsLawfulRelocation (objects_of s)) (objects_of s) p h.r h.at right.lawful.each)
 denies s (place.Overlap p q) h right = h.1 right
@@ -310,5 +309,5 @@ denies s (place.Value p value address) h right =
     h.wrong (at_place (Fits (objects_of s) (where_of s)) (objects_of s) p h.r h.at right.fits)
 denies s (place.SegmentEnd k x in_file end) h right = h.wrong (at_number (EndsRight (things_of s)) (loads s.image) k x right.segments h.there)
 denies s (place.Entry e_entry value) h right = h.wrong right
-denies s (place.Symtab there) h right = h.wrong (h.is_there ∙ right.asked h.version)
+denies s (place.Symtab there) h right = h.1.1 (h.1.0 ∙ right.asked h.0)
 denies s (place.Whole c) h right = h right

@@ -1,4 +1,3 @@
 pub mod Denials
-pub mod WrongBytes
 pub mod WrongRelocations
 pub mod WrongSlots

@@ -1,5 +1,5 @@
 -- Which slots deny that each request has one slot where a relocation makes it, and none elsewhere.
-use Rattle.std.proofs.Common.{◌≡◌, ℕ, ◌+◌, ◌<◌, ◌≤◌, Bool, true, false, not, cond, List, None, Option, Some, refl, sym, ◌∙◌, ap, subst, arith}
+use Rattle.std.proofs.Common.{◌≡◌, ℕ, ◌≤◌, Bool, true, false, not, cond, List, None, Option, Some, sym, ◌∙◌, ap, subst, arith}
 use Rattle.std.specs.Prelude.{Contains}
 use Rattle.std.specs.List.{filter_map, list_any, slice_get}
 use Rattle.std.specs.Option.{option_map_or}
@@ -12,14 +12,14 @@ use Rattle.elf_model.specs.Link.Loading.{LoadedObject}
 use Rattle.elf_model.specs.Image.MapRecord.{SlotRow}
 use Rattle.elf_model.specs.Link.Relocation.{Relocation, relocations}
 use Rattle.elf_model.specs.Image.RightLink.{HasSlot, Subject, objects_of}
-use Rattle.elf_model.specs.Link.Slots.{Request, is_slot_of, request_of, requests, row_request, same_request}
+use Rattle.elf_model.specs.Link.Slots.{Request, is_slot_of, request_of, requests, same_request}
 use Rattle.check_link.specs.Slots.{line_of, request_view}
 use Rattle.check_link.specs.declared.requests.Request as code
 use Rattle.check_relocs.proofs.NeedSteps.{any_requests}
 use Rattle.check_relocs.specs.Needs.{AreNeeds, asks_for_slot}
 use Rattle.check_relocs.specs.declared.needs.Needs.{Needs}
 use Rattle.checker.proofs.SlotCounts.{any_counted, count, count_is, none_counted, only_first}
-use Rattle.explain_check.specs.Facts.{IsNeedless, IsUnserved, IsWrongSlot}
+use Rattle.explain_check.specs.Places.{IsNeedless, IsUnserved, IsWrongSlot}
 use Rattle.input_names.proofs.ListedPlaces.{listed}
 use Rattle.input_names.specs.declared.relocation_places.RelocationPlace.{RelocationPlace}
 

@@ -6,15 +6,7 @@ ghost use Rattle.elf_model.specs.Image.RightLink.{Holds, IsRead};
 ghost use Rattle.elf_model.specs.declared.verdict.Clause as verdict;
 ghost use Rattle.explain_check.specs.Places.{AreFailures, FailsAt, IsFirst, clause_of};
 
-use crate::bytes::add_c10;
-use crate::fill::add_c11;
 use crate::found::{Added, Found};
-use crate::got::add_c7;
-use crate::lines::{add_c2, add_c3, add_c12, add_c13};
-use crate::placement::{add_c5, add_c6};
-use crate::relocations::add_c9;
-use crate::tables::add_c14;
-use crate::thread_block::add_c8;
 use check_link::{Link, read_map, read_plan};
 use check_load::Loaded;
 use check_relocs::Field;
@@ -28,35 +20,35 @@ impl<'a> Observer<'a> for Found<'a> {
     ghost Saw = { λ s found. AreFailures s found.places.items };
 
     fn see_objects(&mut self, link: &'a Link<'a>, objects: &[Loaded<'a>]) -> Added {
-        add_c2(self, link, objects)
+        self.add_c2(link, objects)
     }
 
     fn see_loaded(&mut self, loaded: &LoadedLink<'_, 'a>) -> Added {
-        add_c3(self, loaded)
+        self.add_c3(loaded)
     }
 
     fn see_placed(&mut self, clause: Clause, placed: &PlacedLink<'_, 'a>) -> Added {
         match clause {
-            Clause::C5 => add_c5(self, placed),
-            _ => add_c6(self, placed),
+            Clause::C5 => self.add_c5(placed),
+            _ => self.add_c6(placed),
         }
     }
 
     fn see_bound(&mut self, clause: Clause, bound: &BoundLink<'_, 'a>) -> Added {
         match clause {
-            Clause::C7 => add_c7(self, bound),
-            Clause::C8 => add_c8(self, bound),
-            Clause::C9 => add_c9(self, bound),
-            Clause::C11 => add_c11(self, bound),
-            Clause::C12 => add_c12(self, bound),
-            Clause::C13 => add_c13(self, bound),
-            Clause::C14 => add_c14(self, bound),
+            Clause::C7 => self.add_c7(bound),
+            Clause::C8 => self.add_c8(bound),
+            Clause::C9 => self.add_c9(bound),
+            Clause::C11 => self.add_c11(bound),
+            Clause::C12 => self.add_c12(bound),
+            Clause::C13 => self.add_c13(bound),
+            Clause::C14 => self.add_c14(bound),
             _ => Ok(()),
         }
     }
 
     fn see_fields(&mut self, bound: &BoundLink<'_, 'a>, rows: &[Vec<Field>]) -> Added {
-        add_c10(self, bound, rows)
+        self.add_c10(bound, rows)
     }
 }
 

@@ -4,7 +4,7 @@ ghost use Rattle.elf_model.specs.Image.RightLink.{Holds, Subject};
 ghost use Rattle.elf_model.specs.declared.verdict.Clause as verdict;
 ghost use Rattle.explain_check.specs.Places.{AreFailures, FailsIn, IsOf, clause_of};
 
-use crate::place::{ByteOf, CheckPlace, LineKey, NumberName};
+use crate::place::{ByteOf, CheckPlace, Failure, LineKey, NumberName};
 use elf_model::Clause;
 use std::alloc::{AllocError, Global};
 
@@ -120,7 +120,7 @@ impl<'a> Found<'a> {
     }
 
     /// Takes in a place, where there is one.
-    pub fn add_some(&mut self, place: Option<CheckPlace<'a>>) -> Result<(), AllocError>
+    pub fn add_some(&mut self, place: Failure<'a>) -> Added
         ensures { (s : Subject) →
             AreFailures s self.old.places.items → IfSome place.entry (FailsIn s) →
             OnOk result (AreFailures s self.new.places.items) }
@@ -133,11 +133,7 @@ impl<'a> Found<'a> {
 
     /// Takes in the place of a row, where there is one, and answers whether the rows behind it are to be looked at: not where
     /// it is wrong and there aren't as many rows as there should be, since they then differ only because they are shifted.
-    pub(crate) fn add_row(
-        &mut self,
-        place: Option<CheckPlace<'a>>,
-        as_many: bool,
-    ) -> Result<bool, AllocError>
+    pub(crate) fn add_row(&mut self, place: Failure<'a>, as_many: bool) -> Result<bool, AllocError>
         ensures { (s : Subject) →
             AreFailures s self.old.places.items → IfSome place.entry (FailsIn s) →
             OnOk result (AreFailures s self.new.places.items) }

@@ -4,17 +4,14 @@
 
 mod bytes;
 mod explain;
-mod fill;
 mod found;
-mod got;
 mod lines;
-mod memory_text;
+mod memory;
 mod place;
 mod placement;
 mod relocations;
 mod tables;
 mod text;
-mod thread_block;
 
 pub use explain::{explain_check, read_link};
 pub use found::{Found, clause_of};

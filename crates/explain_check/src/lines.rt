@@ -5,8 +5,7 @@ ghost use Rattle.elf_model.specs.Image.RightLink.{Holds, drop_rows, objects_of};
 ghost use Rattle.elf_model.specs.declared.verdict.Clause.TheVariants as clause;
 ghost use Rattle.check_load.specs.Views.{loaded_views};
 ghost use Rattle.check_relocs.specs.LinkerUses.{AreUsed};
-ghost use Rattle.explain_check.specs.Facts.{IsEntryValue};
-ghost use Rattle.explain_check.specs.Places.{AreFailures, FailsIn};
+ghost use Rattle.explain_check.specs.Places.{AreFailures, FailsIn, IsEntryValue};
 
 use crate::found::{Added, Found};
 use crate::place::{CheckPlace, Failure, LineKey};
@@ -43,21 +42,6 @@ fn wrong_object<'a>(link: &Link<'a>, loaded: &[Loaded<'a>], k: usize) -> Failure
             Some(CheckPlace::Line(key, Some(line)))
         }
     }
-}
-
-/// Adds the object lines that are others than those of the objects that are loaded.
-pub fn add_c2<'a>(found: &mut Found<'a>, link: &'a Link<'a>, loaded: &[Loaded<'a>]) -> Added
-    requires objects { loaded_views loaded.now ≡ objects_of link.now }
-    requires before { AreFailures link.now found.old.places.items }
-    ensures { OnOk result (AreFailures link.entry.now found.new.places.items) }
-{
-    let (told, wanted) = (link.map.objects.len(), loaded.len());
-    for k in 0..told.max(wanted) {
-        if !found.add_row(wrong_object(link, loaded, k), told == wanted)? {
-            break;
-        }
-    }
-    Ok(())
 }
 
 /// The drop line of a number, where it is another one than among those that should be there.
@@ -119,63 +103,6 @@ fn wrong_common<'a>(loaded: &LoadedLink<'_, 'a>, name: &'a [u8]) -> Failure<'a>
     }
 }
 
-/// Adds the common lines that are others than those of common blocks, and the blocks that have none.
-fn add_commons<'a>(found: &mut Found<'a>, loaded: &LoadedLink<'_, 'a>) -> Added
-    requires { AreFailures loaded.now found.old.places.items }
-    ensures { OnOk result (AreFailures loaded.now found.new.places.items) }
-{
-    for line in &loaded.link().map.commons {
-        found.add_some(wrong_common(loaded, &line.name))?;
-    }
-    for block in loaded.names().blocks() {
-        if loaded.lines().line(block.name).is_some() {
-            continue;
-        }
-        found.add_some(wrong_common(loaded, block.name))?;
-    }
-    Ok(())
-}
-
-/// Adds the drop lines that are others than these.
-fn add_drops<'a>(found: &mut Found<'a>, loaded: &LoadedLink<'_, 'a>, drops: &[DropLine]) -> Added
-    requires drops { drops.now ≡ drop_rows 0 (objects_of loaded.now) }
-    requires before { AreFailures loaded.now found.old.places.items }
-    ensures { OnOk result (AreFailures loaded.now found.new.places.items) }
-{
-    let (told, wanted) = (loaded.link().map.drops.len(), drops.len());
-    for k in 0..told.max(wanted) {
-        if !found.add_row(wrong_drop(loaded, drops, k), told == wanted)? {
-            break;
-        }
-    }
-    Ok(())
-}
-
-/// Adds the place lines that are others than those of kept sections.
-fn add_places<'a>(found: &mut Found<'a>, loaded: &LoadedLink<'_, 'a>) -> Added
-    requires { AreFailures loaded.now found.old.places.items }
-    ensures { OnOk result (AreFailures loaded.now found.new.places.items) }
-{
-    let (told, wanted) = (loaded.link().map.places.len(), loaded.pieces().len());
-    for k in 0..told.max(wanted) {
-        if !found.add_row(wrong_place(loaded, k), told == wanted)? {
-            break;
-        }
-    }
-    Ok(())
-}
-
-/// Adds where the third clause fails, but for kinds of sections and for common symbols that aren't sound.
-pub fn add_c3<'a>(found: &mut Found<'a>, loaded: &LoadedLink<'_, 'a>) -> Added
-    requires { AreFailures loaded.now found.old.places.items }
-    ensures { OnOk result (AreFailures loaded.now found.new.places.items) }
-{
-    let drops = drops_of(found.alloc, loaded.names().objects())?;
-    add_drops(found, loaded, &drops)?;
-    add_places(found, loaded)?;
-    add_commons(found, loaded)
-}
-
 /// The value of what the entry's name means, where its chosen definition stands in no section with SHF_TLS.
 fn entry_value(bindings: &Bindings<'_, '_, '_>, name: &[u8]) -> Option<u64>
     ensures { IsEntryValue bindings.now.objects bindings.now.places name.now result }
@@ -186,17 +113,6 @@ fn entry_value(bindings: &Bindings<'_, '_, '_>, name: &[u8]) -> Option<u64>
     }
     let meaning = bindings.meant(&symbol)?;
     Some(bindings.value_of(&meaning))
-}
-
-/// Adds that the twelfth clause fails.
-pub fn add_c12<'a>(found: &mut Found<'a>, bound: &BoundLink<'_, 'a>) -> Added
-    requires fails { ¬ Holds clause.C12 bound.now }
-    requires before { AreFailures bound.now found.old.places.items }
-    ensures { OnOk result (AreFailures bound.now found.new.places.items) }
-{
-    let link = bound.link();
-    let value = entry_value(bound.bindings(), entry_of(&link.plan));
-    found.add(CheckPlace::Entry(bound.memory().entry(), value))
 }
 
 /// The symbol line of a name, where the name asks for another one, given the linker's names that have one.
@@ -252,18 +168,95 @@ fn suspects<'a>(
     Ok(suspects)
 }
 
-/// Adds where the thirteenth clause fails, but for symbols that aren't sound and second strong definitions of a name.
-pub fn add_c13<'a>(found: &mut Found<'a>, bound: &BoundLink<'_, 'a>) -> Added
-    requires { AreFailures bound.now found.old.places.items }
-    ensures { OnOk result (AreFailures bound.now found.new.places.items) }
-{
-    let names = used_names(found.alloc, bound.bindings())?;
-    for name in &suspects(found.alloc, bound, &names)? {
-        if found.is_full() {
-            found.count();
-            continue;
+impl<'a> Found<'a> {
+    /// Adds the object lines that are others than those of the objects that are loaded: where the second clause fails.
+    pub(crate) fn add_c2(&mut self, link: &'a Link<'a>, loaded: &[Loaded<'a>]) -> Added
+        requires before { AreFailures link.now self.old.places.items }
+        requires objects { loaded_views loaded.now ≡ objects_of link.now }
+        ensures { OnOk result (AreFailures link.entry.now self.new.places.items) }
+    {
+        let (told, wanted) = (link.map.objects.len(), loaded.len());
+        for k in 0..told.max(wanted) {
+            if !self.add_row(wrong_object(link, loaded, k), told == wanted)? {
+                break;
+            }
         }
-        found.add_some(wrong_symbol(bound, &names, name))?;
+        Ok(())
     }
-    Ok(())
+
+    /// Adds the drop lines that are others than these.
+    fn add_drops(&mut self, loaded: &LoadedLink<'_, 'a>, drops: &[DropLine]) -> Added
+        requires drops { drops.now ≡ drop_rows 0 (objects_of loaded.now) }
+        requires before { AreFailures loaded.now self.old.places.items }
+        ensures { OnOk result (AreFailures loaded.now self.new.places.items) }
+    {
+        let (told, wanted) = (loaded.link().map.drops.len(), drops.len());
+        for k in 0..told.max(wanted) {
+            if !self.add_row(wrong_drop(loaded, drops, k), told == wanted)? {
+                break;
+            }
+        }
+        Ok(())
+    }
+
+    /// Adds the lines that are others than those of kept sections.
+    fn add_places(&mut self, loaded: &LoadedLink<'_, 'a>) -> Added
+        requires { AreFailures loaded.now self.old.places.items }
+        ensures { OnOk result (AreFailures loaded.now self.new.places.items) }
+    {
+        let (told, wanted) = (loaded.link().map.places.len(), loaded.pieces().len());
+        for k in 0..told.max(wanted) {
+            if !self.add_row(wrong_place(loaded, k), told == wanted)? {
+                break;
+            }
+        }
+        Ok(())
+    }
+
+    /// Adds where the third clause fails, but for kinds of sections and for common symbols that aren't sound.
+    pub(crate) fn add_c3(&mut self, loaded: &LoadedLink<'_, 'a>) -> Added
+        requires { AreFailures loaded.now self.old.places.items }
+        ensures { OnOk result (AreFailures loaded.now self.new.places.items) }
+    {
+        let drops = drops_of(self.alloc, loaded.names().objects())?;
+        self.add_drops(loaded, &drops)?;
+        self.add_places(loaded)?;
+        for line in &loaded.link().map.commons {
+            self.add_some(wrong_common(loaded, &line.name))?;
+        }
+        for block in loaded.names().blocks() {
+            if loaded.lines().line(block.name).is_some() {
+                continue;
+            }
+            self.add_some(wrong_common(loaded, block.name))?;
+        }
+        Ok(())
+    }
+
+    /// Adds that the twelfth clause fails.
+    pub(crate) fn add_c12(&mut self, bound: &BoundLink<'_, 'a>) -> Added
+        requires before { AreFailures bound.now self.old.places.items }
+        requires fails { ¬ Holds clause.C12 bound.now }
+        ensures { OnOk result (AreFailures bound.now self.new.places.items) }
+    {
+        let link = bound.link();
+        let value = entry_value(bound.bindings(), entry_of(&link.plan));
+        self.add(CheckPlace::Entry(bound.memory().entry(), value))
+    }
+
+    /// Adds where the thirteenth clause fails, but for symbols that aren't sound and second strong definitions of a name.
+    pub(crate) fn add_c13(&mut self, bound: &BoundLink<'_, 'a>) -> Added
+        requires { AreFailures bound.now self.old.places.items }
+        ensures { OnOk result (AreFailures bound.now self.new.places.items) }
+    {
+        let names = used_names(self.alloc, bound.bindings())?;
+        for name in &suspects(self.alloc, bound, &names)? {
+            if self.is_full() {
+                self.count();
+                continue;
+            }
+            self.add_some(wrong_symbol(bound, &names, name))?;
+        }
+        Ok(())
+    }
 }

@@ -5,9 +5,9 @@ ghost use Rattle.std.specs.List.{slice_get};
 ghost use Rattle.elf_model.specs.Image.MemoryImage.{Encloses, loads};
 ghost use Rattle.elf_model.specs.Link.Placement.{AreApart, LiesInSegment};
 ghost use Rattle.check_link.specs.Views.{placed_view, placed_views};
-ghost use Rattle.explain_check.specs.Facts.{IsPart, MustLie, piece_of};
-ghost use Rattle.explain_check.specs.Places.{AreFailures, FailsIn};
+ghost use Rattle.explain_check.specs.Places.{AreFailures, FailsIn, IsPart, IsThing, MustLie, piece_of};
 
+use crate::bytes::placed_at;
 use crate::found::{Added, Found};
 use crate::place::{CheckPlace, Failure, Part};
 use check_link::{Placed, base_of, first_address, range_of_placed};
@@ -21,13 +21,6 @@ use elf_model::{ProgramHeader, Thing};
 use loader_model::Memory;
 use std::alloc::{AllocError, Global};
 
-/// The piece that has a number among pieces.
-fn at_number<'a>(pieces: &[Placed<'a>], k: usize) -> Option<Placed<'a>>
-    ensures { slice_get (placed_views pieces.now) k ≡ option_map placed_view result }
-{
-    pieces.get(k).copied()
-}
-
 /// The piece that the thing with a number is: none where it is the headers or the GOT.
 fn piece_at<'a>(placed: &PlacedLink<'_, 'a>, k: usize) -> Option<Placed<'a>>
     ensures { piece_of placed.now k ≡ option_map placed_view result }
@@ -36,38 +29,32 @@ fn piece_at<'a>(placed: &PlacedLink<'_, 'a>, k: usize) -> Option<Placed<'a>>
     if k <= gots {
         return None;
     }
-    at_number(placed.placed(), k - 1 - gots)
+    placed_at(placed.placed(), k - 1 - gots)
 }
 
-/// The thread-local section that has a number among the things, with its addresses.
-fn thread_at<'a>(placed: &PlacedLink<'_, 'a>, k: usize) -> Option<Part<'a>>
-    ensures part { IfSome result (IsPart placed.now) }
-    ensures thread { IfSome result (λ p. p.thread ≡ true) }
+/// The thing that has a number, or the thread-local section that has it, with all its addresses.
+fn thing_at(placed: &PlacedLink<'_, '_>, thread: bool, k: usize) -> Option<Thing>
+    ensures { IfSome result (IsThing placed.now thread k) }
 {
+    if !thread {
+        return placed.things().get(k).copied();
+    }
     let piece = piece_at(placed, k)?;
     if !piece.piece.header.is_thread_local() {
         return None;
     }
-    Some(Part {
-        thread: true,
-        number: k as u64,
-        thing: range_of_placed(&piece),
-        piece: Some(piece),
-    })
+    Some(range_of_placed(&piece))
 }
 
-/// The thing that has a number, or the thread-local section that has it, with its addresses.
+/// It as a part.
 fn part_at<'a>(placed: &PlacedLink<'_, 'a>, thread: bool, k: usize) -> Option<Part<'a>>
     ensures part { IfSome result (IsPart placed.now) }
     ensures list { IfSome result (λ p. p.thread ≡ thread) }
 {
-    if thread {
-        return thread_at(placed, k);
-    }
     Some(Part {
         thread,
         number: k as u64,
-        thing: placed.things().get(k).copied()?,
+        thing: thing_at(placed, thread, k)?,
         piece: piece_at(placed, k),
     })
 }
@@ -126,7 +113,7 @@ fn overlapping(
 ) -> Result<Vec<(usize, usize)>, AllocError> {
     let mut ordered = Vec::new(alloc);
     for k in 0..placed.things().len() {
-        if let Some(Part { thing, .. }) = part_at(placed, thread, k) {
+        if let Some(thing) = thing_at(placed, thread, k) {
             ordered.push((thing.at, thing.at.saturating_add(thing.size), k))?;
         }
     }
@@ -142,45 +129,6 @@ fn overlapping(
         }
     }
     Ok(pairs)
-}
-
-/// Adds the things, or the thread-local sections, that lie outside of the addresses or share one.
-fn add_parts<'a>(found: &mut Found<'a>, placed: &PlacedLink<'_, 'a>, thread: bool) -> Added
-    requires { AreFailures placed.now found.old.places.items }
-    ensures { OnOk result (AreFailures placed.now found.new.places.items) }
-{
-    for k in 0..placed.things().len() {
-        found.add_some(outside(placed, thread, k))?;
-    }
-    for (i, j) in &overlapping(found.alloc, placed, thread)? {
-        found.add_some(shared(placed, thread, *i, *j))?;
-    }
-    Ok(())
-}
-
-/// Adds the sections that aren't close after the one before them in the order of their output sections.
-fn add_far<'a>(found: &mut Found<'a>, placed: &PlacedLink<'_, 'a>) -> Added
-    requires { AreFailures placed.now found.old.places.items }
-    ensures { OnOk result (AreFailures placed.now found.new.places.items) }
-{
-    let sections = in_array_order(found.alloc, placed.sections())?;
-    for (first, second) in &far_pairs(found.alloc, &sections)? {
-        found.add(CheckPlace::Far(*first, *second))?;
-    }
-    Ok(())
-}
-
-/// Adds where the fifth clause fails.
-pub fn add_c5<'a>(found: &mut Found<'a>, placed: &PlacedLink<'_, 'a>) -> Added
-    requires { AreFailures placed.now found.old.places.items }
-    ensures { OnOk result (AreFailures placed.now found.new.places.items) }
-{
-    for k in 0..placed.things().len() {
-        found.add_some(unaligned(placed, k))?;
-    }
-    add_parts(found, placed, false)?;
-    add_parts(found, placed, true)?;
-    add_far(found, placed)
 }
 
 /// Whether the thing with a number, which is empty and not the GOT, or lies whole in a segment with exactly its rights.
@@ -231,21 +179,55 @@ fn wrong_first<'a>(placed: &PlacedLink<'_, 'a>) -> Failure<'a>
     Some(CheckPlace::First(first))
 }
 
-/// Adds where the sixth clause fails.
-pub fn add_c6<'a>(found: &mut Found<'a>, placed: &PlacedLink<'_, 'a>) -> Added
-    requires { AreFailures placed.now found.old.places.items }
-    ensures { OnOk result (AreFailures placed.now found.new.places.items) }
-{
-    found.add_some(wrong_first(placed))?;
-    for (k, thing) in placed.things().iter().enumerate() {
-        if is_held(placed, k as u64, thing) {
-            continue;
+impl<'a> Found<'a> {
+    /// Adds the things, or the thread-local sections, that lie outside of the addresses or share one.
+    fn add_parts(&mut self, placed: &PlacedLink<'_, 'a>, thread: bool) -> Added
+        requires { AreFailures placed.now self.old.places.items }
+        ensures { OnOk result (AreFailures placed.now self.new.places.items) }
+    {
+        for k in 0..placed.things().len() {
+            self.add_some(outside(placed, thread, k))?;
         }
-        if found.is_full() {
-            found.count();
-            continue;
+        for (i, j) in &overlapping(self.alloc, placed, thread)? {
+            self.add_some(shared(placed, thread, *i, *j))?;
         }
-        found.add_some(unheld(placed, k))?;
+        Ok(())
     }
-    Ok(())
+
+    /// Adds where the fifth clause fails: also the sections that aren't close after the one before them in the order of their
+    /// output sections.
+    pub(crate) fn add_c5(&mut self, placed: &PlacedLink<'_, 'a>) -> Added
+        requires { AreFailures placed.now self.old.places.items }
+        ensures { OnOk result (AreFailures placed.now self.new.places.items) }
+    {
+        for k in 0..placed.things().len() {
+            self.add_some(unaligned(placed, k))?;
+        }
+        self.add_parts(placed, false)?;
+        self.add_parts(placed, true)?;
+        let sections = in_array_order(self.alloc, placed.sections())?;
+        for (first, second) in &far_pairs(self.alloc, &sections)? {
+            self.add(CheckPlace::Far(*first, *second))?;
+        }
+        Ok(())
+    }
+
+    /// Adds where the sixth clause fails.
+    pub(crate) fn add_c6(&mut self, placed: &PlacedLink<'_, 'a>) -> Added
+        requires { AreFailures placed.now self.old.places.items }
+        ensures { OnOk result (AreFailures placed.now self.new.places.items) }
+    {
+        self.add_some(wrong_first(placed))?;
+        for (k, thing) in placed.things().iter().enumerate() {
+            if is_held(placed, k as u64, thing) {
+                continue;
+            }
+            if self.is_full() {
+                self.count();
+                continue;
+            }
+            self.add_some(unheld(placed, k))?;
+        }
+        Ok(())
+    }
 }

@@ -2,16 +2,12 @@
 //! byte: neighbours in the order of their fields. And where any kept relocation is.
 ghost use Rattle.std.specs.Prelude.{◌≡◌, ◌↔◌, ◌+◌, ◌<◌, ◌≤◌, IfSome, IsTrue, OnOk, Some};
 ghost use Rattle.elf_model.specs.Image.RightLink.{AreRelocationsRight, Subject, objects_of};
-ghost use Rattle.elf_model.specs.Inputs.ObjectFile.{rela_type};
-ghost use Rattle.elf_model.specs.Link.Relocation.{kind_of};
 ghost use Rattle.check_relocs.specs.Bindings.{bound_of};
 ghost use Rattle.check_relocs.specs.Kinds.{kind_view};
 ghost use Rattle.check_relocs.specs.LawfulFields as fields;
-ghost use Rattle.check_relocs.specs.Widths.{IsWidth};
 ghost use Rattle.check_relocs.specs.Referrers.{object_here, objects_here};
 ghost use Rattle.input_names.specs.RelocationPlaces.{IsKeptOf};
-ghost use Rattle.explain_check.specs.Facts.{AreTerms, IsFieldOver, IsWrongWith, width_of_entry};
-ghost use Rattle.explain_check.specs.Places.{AreFailures, FailsIn};
+ghost use Rattle.explain_check.specs.Places.{AreFailures, FailsIn, IsFieldOver, IsWrongWith, width_of_entry};
 
 use crate::found::{Added, Found};
 use crate::place::{CheckPlace, Failure};
@@ -58,24 +54,16 @@ pub fn place_at<'a>(
     if !is_some_kind(&entry) {
         return None;
     }
-    Some(relocation_place(
-        here.number as usize,
-        &one.object,
-        table,
-        &header,
-        number,
-        &entry,
-    ))
+    let object = here.number as usize;
+    let place = relocation_place(object, &one.object, table, &header, number, &entry);
+    Some(place)
 }
 
 /// The width of an entry's field in bytes; 0 for a type that is no kind.
 fn width_of(entry: &Rela) -> u64
     ensures { result ≡ width_of_entry entry.now }
 {
-    match kind_of(entry.kind()) {
-        Some(kind) => kind.width as u64,
-        None => 0,
-    }
+    kind_of(entry.kind()).map_or(0, |kind| kind.width as u64)
 }
 
 /// Whether byte `k` of a section lies in an entry's field.
@@ -111,10 +99,7 @@ pub fn field_place<'a>(
     }
     let here = referrer_at(bound.bindings(), object as usize)?;
     let place = place_at(&here, &relocation_over(here.loaded, section, k)?)?;
-    if place.section as u64 != section {
-        return None;
-    }
-    if !is_over(&place.entry, k) {
+    if place.section as u64 != section || !is_over(&place.entry, k) {
         return None;
     }
     Some(place)
@@ -158,35 +143,6 @@ fn value_with(kind: &Kind, target: &Target, to: &Relocated, given: &LinkTerms, e
     value_of(kind.formula, entry.r_addend, terms)
 }
 
-/// What is wrong with a kept relocation of an object, of a kind, given the terms of its value.
-fn wrong_with<'a>(
-    here: &Referrer<'_, '_, '_, 'a>,
-    place: &RelocationPlace<'a>,
-    kind: &Kind,
-    target: &Target,
-    to: &Relocated,
-    given: &LinkTerms,
-) -> Failure<'a>
-    requires at { IsKeptOf (objects_here here.now) here.now.number (object_here here.now) place.now }
-    requires kind { kind_of (rela_type place.now.entry) ≡ Some (kind_view kind.now) }
-    requires width { IsWidth kind.now.width }
-    requires section { to.now.section ≡ place.now.section }
-    requires terms { AreTerms here.now place.now.entry target.now to.now given.now }
-    ensures { (s : Subject) → here.now.bindings.now ≡ bound_of s → IfSome result (FailsIn s) }
-{
-    let _here = here;
-    let entry = &place.entry;
-    if let Some(fault) = fault_with(kind, target, to, entry) {
-        return Some(CheckPlace::Relocation(*place, fault));
-    }
-    let value = value_with(kind, target, to, given, entry);
-    if fits(kind.range, kind.width as u64, value) {
-        return None;
-    }
-    let address = to.address.wrapping_add(entry.r_offset);
-    Some(CheckPlace::Value(*place, value, address))
-}
-
 /// What is wrong with a kept relocation of an object.
 fn wrong_place<'a>(here: &Referrer<'_, '_, '_, 'a>, relocation: &KeptRelocation) -> Failure<'a>
     ensures { (s : Subject) → here.now.bindings.now ≡ bound_of s → IfSome result (FailsIn s) }
@@ -200,7 +156,15 @@ fn wrong_place<'a>(here: &Referrer<'_, '_, '_, 'a>, relocation: &KeptRelocation)
     let to = relocated(bindings, number, &one.object, place.section);
     let target = target_of_symbol(bindings, number, one, entry.symbol() as usize);
     let given = link_terms(bindings, number, one, &entry);
-    wrong_with(here, &place, &kind, &target, &to, &given)
+    if let Some(fault) = fault_with(&kind, &target, &to, &entry) {
+        return Some(CheckPlace::Relocation(place, fault));
+    }
+    let value = value_with(&kind, &target, &to, &given, &entry);
+    if fits(kind.range, kind.width as u64, value) {
+        return None;
+    }
+    let address = to.address.wrapping_add(entry.r_offset);
+    Some(CheckPlace::Value(place, value, address))
 }
 
 /// Two kept relocations of an object, where the field of the second one begins inside that of the first one, in a link whose
@@ -215,51 +179,45 @@ fn overlap<'a>(
 {
     let first = place_at(here, first)?;
     let second = place_at(here, second)?;
-    if !begins_in(
-        &first,
-        width_of(&first.entry),
-        &second,
-        width_of(&second.entry),
-    ) {
+    let width = width_of(&first.entry);
+    if !begins_in(&first, width, &second, width_of(&second.entry)) {
         return None;
     }
     Some(CheckPlace::Overlap(first, second))
 }
 
-/// Adds what is wrong with kept relocations of an object, and neighbours in the order of their sections and fields that share a
-/// byte.
-fn add_object<'a>(
-    found: &mut Found<'a>,
-    bound: &BoundLink<'_, 'a>,
-    here: &Referrer<'_, '_, '_, 'a>,
-) -> Added
-    requires here { here.now.bindings.now ≡ bound_of bound.now }
-    requires fails { ¬ AreRelocationsRight bound.now }
-    requires before { AreFailures bound.now found.old.places.items }
-    ensures { OnOk result (AreFailures bound.now found.new.places.items) }
-{
-    let mut relocations = Vec::new(found.alloc);
-    for relocation in here.loaded.relocations() {
-        found.add_some(wrong_place(here, &relocation))?;
-        relocations.push(relocation)?;
-    }
-    relocations.sort_by_key(|r| (r.section, r.entry.r_offset))?;
-    for i in 1..relocations.len() {
-        found.add_some(overlap(here, &relocations[i - 1], &relocations[i]))?;
-    }
-    Ok(())
-}
-
-/// Adds the kept relocations of a link that aren't lawful or whose values don't fit: where its ninth clause fails.
-pub fn add_c9<'a>(found: &mut Found<'a>, bound: &BoundLink<'_, 'a>) -> Added
-    requires fails { ¬ AreRelocationsRight bound.now }
-    requires before { AreFailures bound.now found.old.places.items }
-    ensures { OnOk result (AreFailures bound.now found.new.places.items) }
-{
-    for number in 0..bound.bindings().objects().len() {
-        if let Some(here) = referrer_at(bound.bindings(), number) {
-            add_object(found, bound, &here)?;
+impl<'a> Found<'a> {
+    /// Adds what is wrong with kept relocations of an object, and neighbours in the order of their sections and fields that
+    /// share a byte.
+    fn add_object(&mut self, bound: &BoundLink<'_, 'a>, here: &Referrer<'_, '_, '_, 'a>) -> Added
+        requires before { AreFailures bound.now self.old.places.items }
+        requires here { here.now.bindings.now ≡ bound_of bound.now }
+        requires fails { ¬ AreRelocationsRight bound.now }
+        ensures { OnOk result (AreFailures bound.now self.new.places.items) }
+    {
+        let mut relocations = Vec::new(self.alloc);
+        for relocation in here.loaded.relocations() {
+            self.add_some(wrong_place(here, &relocation))?;
+            relocations.push(relocation)?;
         }
+        relocations.sort_by_key(|r| (r.section, r.entry.r_offset))?;
+        for i in 1..relocations.len() {
+            self.add_some(overlap(here, &relocations[i - 1], &relocations[i]))?;
+        }
+        Ok(())
     }
-    Ok(())
+
+    /// Adds the kept relocations of a link that aren't lawful or whose values don't fit: where its ninth clause fails.
+    pub(crate) fn add_c9(&mut self, bound: &BoundLink<'_, 'a>) -> Added
+        requires before { AreFailures bound.now self.old.places.items }
+        requires fails { ¬ AreRelocationsRight bound.now }
+        ensures { OnOk result (AreFailures bound.now self.new.places.items) }
+    {
+        for number in 0..bound.bindings().objects().len() {
+            if let Some(here) = referrer_at(bound.bindings(), number) {
+                self.add_object(bound, &here)?;
+            }
+        }
+        Ok(())
+    }
 }

@@ -4,8 +4,7 @@ ghost use Rattle.std.specs.Prelude.{◌≡◌, ◌≤◌, IfSome, IsSome, OnOk, 
 ghost use Rattle.elf_model.specs.Image.RightLink.{HoldsBefore, tabled_of};
 ghost use Rattle.elf_model.specs.declared.verdict.Clause.TheVariants as clause;
 ghost use Rattle.check_tables.specs.Tabled.{AreAt, AreWanted};
-ghost use Rattle.explain_check.specs.Facts.{IsInEntry, parts_end, tail_of};
-ghost use Rattle.explain_check.specs.Places.{AreFailures, FailsIn};
+ghost use Rattle.explain_check.specs.Places.{AreFailures, FailsIn, IsInEntry, parts_end, tail_of};
 
 use crate::bytes::{at, other_number, wrong_byte, wrong_number};
 use crate::found::{Added, Found};
@@ -80,39 +79,41 @@ fn wrong_tail<'a>(bound: &BoundLink<'_, 'a>, end: u64, wanted: &Wanted<'a>) -> F
     wrong_byte(bound, of, i as u64, at(there, i), at(bytes, i))
 }
 
-/// Adds what is wrong with the table that the map tells of.
-fn add_table<'a>(found: &mut Found<'a>, bound: &BoundLink<'_, 'a>) -> Added
-    requires clauses { HoldsBefore clause.C14 bound.now }
-    requires told { IsSome bound.now.map.symtab }
-    requires before { AreFailures bound.now found.old.places.items }
-    ensures { OnOk result (AreFailures bound.now found.new.places.items) }
-{
-    let end = file_end(bound.memory());
-    let Some(choices) = choices(found.alloc, bound)? else {
-        return Ok(());
-    };
-    let Some(wanted) = wanted_tables(found.alloc, bound, &choices, end)? else {
-        return Ok(());
-    };
-    let (symtab, headers) = (wanted.places.symtab, wanted.places.headers);
-    found.add_some(other_number(bound, NumberName::TableOffset, symtab))?;
-    found.add_some(other_number(bound, NumberName::TableCount, wanted.count))?;
-    found.add_some(other_number(bound, NumberName::HeadersOffset, headers))?;
-    found.add_some(wrong_tail(bound, end, &wanted))
-}
+impl<'a> Found<'a> {
+    /// Adds what is wrong with the table that the map tells of.
+    fn add_table(&mut self, bound: &BoundLink<'_, 'a>) -> Added
+        requires before { AreFailures bound.now self.old.places.items }
+        requires clauses { HoldsBefore clause.C14 bound.now }
+        requires told { IsSome bound.now.map.symtab }
+        ensures { OnOk result (AreFailures bound.now self.new.places.items) }
+    {
+        let end = file_end(bound.memory());
+        let Some(choices) = choices(self.alloc, bound)? else {
+            return Ok(());
+        };
+        let Some(wanted) = wanted_tables(self.alloc, bound, &choices, end)? else {
+            return Ok(());
+        };
+        let (symtab, headers) = (wanted.places.symtab, wanted.places.headers);
+        self.add_some(other_number(bound, NumberName::TableOffset, symtab))?;
+        self.add_some(other_number(bound, NumberName::TableCount, wanted.count))?;
+        self.add_some(other_number(bound, NumberName::HeadersOffset, headers))?;
+        self.add_some(wrong_tail(bound, end, &wanted))
+    }
 
-/// Adds where the fourteenth clause fails.
-pub fn add_c14<'a>(found: &mut Found<'a>, bound: &BoundLink<'_, 'a>) -> Added
-    requires clauses { HoldsBefore clause.C14 bound.now }
-    requires before { AreFailures bound.now found.old.places.items }
-    ensures { OnOk result (AreFailures bound.now found.new.places.items) }
-{
-    found.add_some(wrongly_told(bound))?;
-    found.add_some(wrong_number(bound, NumberName::HeadersCount))?;
-    found.add_some(wrong_number(bound, NumberName::NamesSection))?;
-    found.add_some(wrong_number(bound, NumberName::HeadersOffset))?;
-    match bound.link().map.symtab {
-        Some(_) => add_table(found, bound),
-        None => Ok(()),
+    /// Adds where the fourteenth clause fails.
+    pub(crate) fn add_c14(&mut self, bound: &BoundLink<'_, 'a>) -> Added
+        requires before { AreFailures bound.now self.old.places.items }
+        requires clauses { HoldsBefore clause.C14 bound.now }
+        ensures { OnOk result (AreFailures bound.now self.new.places.items) }
+    {
+        self.add_some(wrongly_told(bound))?;
+        self.add_some(wrong_number(bound, NumberName::HeadersCount))?;
+        self.add_some(wrong_number(bound, NumberName::NamesSection))?;
+        self.add_some(wrong_number(bound, NumberName::HeadersOffset))?;
+        match bound.link().map.symtab {
+            Some(_) => self.add_table(bound),
+            None => Ok(()),
+        }
     }
 }

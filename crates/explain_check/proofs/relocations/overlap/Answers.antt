@@ -14,8 +14,8 @@ returns c = λ s is fails.
     let p = c.in_ok-first.first in
     let q = c.in_ok-second.second in
     let begins : BeginsIn p (width_of (of p)) q (width_of (of q)) =
-    subst (λ (n : ℕ). BeginsIn p n q (width_of (of q))) c.width_of.ensures
-    (subst (λ (n : ℕ). BeginsIn p c.width_of.result q n) c.width_of-2.ensures (c.if-not-begins_in.ensures refl)) in (
+    subst (λ (n : ℕ). BeginsIn p n q (width_of (of q))) c.width_of-width.ensures
+    (subst (λ (n : ℕ). BeginsIn p c.width_of-width.result q n) c.width_of.ensures (c.if-not-begins_in.ensures refl)) in (
       subst (λ (b : Bound). IsOverlap b.objects p q) is (record {
         two = begins.two;
         r = of p;

@@ -1,9 +1,9 @@
-use Rattle.std.proofs.Common.{◌≡◌, ◌∙◌, ◌-◌, ℕ, List, ap, subst, sym}
+use Rattle.std.proofs.Common.{◌≡◌, ◌∙◌, ◌-◌, ℕ, List, ap, subst}
 use Rattle.std.specs.Prelude.{IfSome}
 use Rattle.std.specs.List.{slice_get}
 use Rattle.elf_model.specs.Image.RightLink.{tabled_of}
 use Rattle.elf_model.specs.Image.SymbolTable.{strtab_at, symtab_at}
-use Rattle.explain_check.specs.Facts.{IsInEntry, parts_end}
+use Rattle.explain_check.specs.Places.{IsInEntry, parts_end}
 use Rattle.explain_check.proofs.tables.wrong_tail.Goals as goal
 
 pub wrong_byte-requires-clause-there : goal.wrong_byte-requires-clause-there

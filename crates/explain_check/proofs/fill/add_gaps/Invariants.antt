@@ -1,5 +1,0 @@
-use Rattle.explain_check.specs.Places.{AreFailures}
-use Rattle.explain_check.proofs.fill.add_gaps.Given as goal
-
-abbrev pub invariant-loop-segment : goal.invariant-loop-segment
-invariant-loop-segment l = AreFailures l.bound l.found.places.items

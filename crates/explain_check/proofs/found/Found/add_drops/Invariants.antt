@@ -1,0 +1,5 @@
+use Rattle.explain_check.specs.Places.{AreFailures}
+use Rattle.explain_check.proofs.found.Found.add_drops.Given as goal
+
+abbrev pub invariant-loop-k : goal.invariant-loop-k
+invariant-loop-k l = AreFailures l.loaded l.self.places.items

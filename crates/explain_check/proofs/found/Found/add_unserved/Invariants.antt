@@ -1,0 +1,8 @@
+use Rattle.explain_check.specs.Places.{AreFailures}
+use Rattle.explain_check.proofs.found.Found.add_unserved.Given as goal
+
+abbrev pub invariant-loop-object : goal.invariant-loop-object
+invariant-loop-object l = AreFailures l.bound l.self.places.items
+
+abbrev pub invariant-loop-relocation : goal.invariant-loop-relocation
+invariant-loop-relocation l = AreFailures l.bound l.self.places.items

@@ -1,5 +1,0 @@
-use Rattle.explain_check.specs.Places.{AreFailures}
-use Rattle.explain_check.proofs.got.add_c7.Given as goal
-
-abbrev pub invariant-loop-number : goal.invariant-loop-number
-invariant-loop-number l = AreFailures l.bound l.found.places.items

@@ -1,8 +1,0 @@
-use Rattle.explain_check.specs.Places.{AreFailures}
-use Rattle.explain_check.proofs.got.add_unserved.Given as goal
-
-abbrev pub invariant-loop-object : goal.invariant-loop-object
-invariant-loop-object l = AreFailures l.bound l.found.places.items
-
-abbrev pub invariant-loop-relocation : goal.invariant-loop-relocation
-invariant-loop-relocation l = AreFailures l.bound l.found.places.items

@@ -1,8 +1,0 @@
-use Rattle.explain_check.specs.Places.{AreFailures}
-use Rattle.explain_check.proofs.lines.add_commons.Given as goal
-
-abbrev pub invariant-loop-line : goal.invariant-loop-line
-invariant-loop-line l = AreFailures l.loaded l.found.places.items
-
-abbrev pub invariant-loop-block : goal.invariant-loop-block
-invariant-loop-block l = AreFailures l.loaded l.found.places.items

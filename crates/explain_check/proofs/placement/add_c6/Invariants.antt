@@ -1,5 +1,0 @@
-use Rattle.explain_check.specs.Places.{AreFailures}
-use Rattle.explain_check.proofs.placement.add_c6.Given as goal
-
-abbrev pub invariant-loop-k : goal.invariant-loop-k
-invariant-loop-k l = AreFailures l.placed l.found.places.items

@@ -1,8 +1,0 @@
-use Rattle.explain_check.specs.Places.{AreFailures}
-use Rattle.explain_check.proofs.relocations.add_object.Given as goal
-
-abbrev pub invariant-loop-relocation : goal.invariant-loop-relocation
-invariant-loop-relocation l = AreFailures l.bound l.found.places.items
-
-abbrev pub invariant-loop-i : goal.invariant-loop-i
-invariant-loop-i l = AreFailures l.bound l.found.places.items
