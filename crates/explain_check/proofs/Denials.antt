@@ -251,7 +251,7 @@ denies s (place.Unaligned p) h right =
     h.wrong
     (at_number (λ (t : Thing). t.at % t.align ≡ 0) (things_of s) p.number p.thing right.aligned
     (subst (λ (b : Bool). IsThing s b p.number p.thing) h.thing h.part.there))
-denies s (place.Outside p) h right = h.wrong (within_at s p.thread p.number p.thing h.part.there right)
+denies s (place.Outside p) h right = h.1 (within_at s p.thread p.number p.thing h.0.there right)
 denies s (place.Shared p q) h right = shared_denied s p q h right
 denies s (place.Far p q) h right = far_denied s p q h right
 denies s (place.Unheld p segment) h right = unheld_denied s p segment h right

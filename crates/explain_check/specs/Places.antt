@@ -124,10 +124,6 @@ pub record IsUnaligned (s : Subject) (p : Part) : Type 0 where
   pub thing : p.thread ≡ false
   pub wrong : ¬ (p.thing.at % p.thing.align ≡ 0)
 
-pub record IsOutside (s : Subject) (p : Part) : Type 0 where
-  pub part : IsPart s p
-  pub wrong : ¬ IsWithin s.plan.base p.thing
-
 -- two of the things, or two of the thread-local sections, have an address in common
 pub record IsShared (s : Subject) (p q : Part) : Type 0 where
   pub first : IsPart s p
@@ -341,7 +337,7 @@ pub record IsWrongEnd (s : Subject) (k : ℕ) (h : ProgramHeader) (in_file : Boo
 abbrev pub FailsIn : Subject → CheckPlace → Type 0
 FailsIn s (place.Line k wanted) = IsWrongLine s k wanted
 FailsIn s (place.Unaligned p) = IsUnaligned s p
-FailsIn s (place.Outside p) = IsOutside s p
+FailsIn s (place.Outside p) = IsPart s p × (¬ IsWithin s.plan.base p.thing)
 FailsIn s (place.Shared p q) = IsShared s p q
 FailsIn s (place.Far p q) = AreFar (ordered_sections s) p q
 FailsIn s (place.Unheld p segment) = IsUnheld s p segment

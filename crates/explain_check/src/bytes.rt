@@ -14,6 +14,7 @@ ghost use Rattle.check_relocs.specs.Fields.{AreRows};
 ghost use Rattle.explain_check.specs.Places.{AreFailures, FailsIn, IsAmong, IsWanted, byte_there, number_there, number_wanted};
 
 use crate::found::{Added, Found};
+use crate::place::NumberName::{HeadersCount, HeadersOffset, NamesSection};
 use crate::place::{ByteOf, BytePlace, CheckPlace, Failure, NumberName};
 use crate::relocations::field_place;
 use check_link::{Placed, load_size};
@@ -57,11 +58,9 @@ fn wanted_number(bound: &BoundLink<'_, '_>, name: NumberName) -> Option<u64>
             map.got?.address.checked_add(behind)
         }
         (NumberName::Length, None) => Some(file_end(bound.memory())),
-        (NumberName::HeadersCount, Some(_)) => Some(4),
-        (NumberName::NamesSection, Some(_)) => Some(3),
-        (NumberName::HeadersOffset, None) => Some(0),
-        (NumberName::HeadersCount, None) => Some(0),
-        (NumberName::NamesSection, None) => Some(0),
+        (HeadersCount, Some(_)) => Some(4),
+        (NamesSection, Some(_)) => Some(3),
+        (HeadersOffset | HeadersCount | NamesSection, None) => Some(0),
         _ => None,
     }
 }

@@ -18,7 +18,6 @@ use check_places::c06_rights::{lies_if_nonempty, lies_in_segment};
 use check_stages::encloses;
 use checker::PlacedLink;
 use elf_model::{ProgramHeader, Thing};
-use loader_model::Memory;
 use std::alloc::{AllocError, Global};
 
 /// The piece that the thing with a number is: none where it is the headers or the GOT.
@@ -143,13 +142,13 @@ fn is_held(placed: &PlacedLink<'_, '_>, number: u64, thing: &Thing) -> bool
 }
 
 /// The first segment that a thing lies whole in.
-fn segment_of(memory: &Memory<'_>, thing: &Thing) -> Option<ProgramHeader>
-    ensures some { IfSome result (λ h. Contains (loads memory.now) h
+fn segment_of(placed: &PlacedLink<'_, '_>, thing: &Thing) -> Option<ProgramHeader>
+    ensures some { IfSome result (λ h. Contains (loads placed.now.image) h
         × Encloses h thing.now.at thing.now.size) }
     ensures none { IfNone result
-        (All (λ h. ¬ Encloses h thing.now.at thing.now.size) (loads memory.now)) }
+        (All (λ h. ¬ Encloses h thing.now.at thing.now.size) (loads placed.now.image)) }
 {
-    let mut segments = memory.segments().iter();
+    let mut segments = placed.memory().segments().iter();
     segments
         .find(|h| encloses(h, thing.at, thing.size))
         .copied()
@@ -163,7 +162,7 @@ fn unheld<'a>(placed: &PlacedLink<'_, 'a>, k: usize) -> Failure<'a>
     if is_held(placed, part.number, &part.thing) {
         return None;
     }
-    let segment = segment_of(placed.memory(), &part.thing);
+    let segment = segment_of(placed, &part.thing);
     Some(CheckPlace::Unheld(part, segment))
 }
 

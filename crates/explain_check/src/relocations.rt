@@ -1,8 +1,7 @@
 //! C9: kept relocations that aren't lawful, those whose values don't fit their fields, and those of an object whose fields share a
 //! byte: neighbours in the order of their fields. And where any kept relocation is.
 ghost use Rattle.std.specs.Prelude.{◌≡◌, ◌↔◌, ◌+◌, ◌<◌, ◌≤◌, IfSome, IsTrue, OnOk, Some};
-ghost use Rattle.elf_model.specs.Image.RightLink.{AreRelocationsRight, Subject, objects_of};
-ghost use Rattle.check_relocs.specs.Bindings.{bound_of};
+ghost use Rattle.elf_model.specs.Image.RightLink.{AreRelocationsRight, objects_of};
 ghost use Rattle.check_relocs.specs.Kinds.{kind_view};
 ghost use Rattle.check_relocs.specs.LawfulFields as fields;
 ghost use Rattle.check_relocs.specs.Referrers.{object_here, objects_here};
@@ -143,11 +142,12 @@ fn value_with(kind: &Kind, target: &Target, to: &Relocated, given: &LinkTerms, e
     value_of(kind.formula, entry.r_addend, terms)
 }
 
-/// What is wrong with a kept relocation of an object.
-fn wrong_place<'a>(here: &Referrer<'_, '_, '_, 'a>, relocation: &KeptRelocation) -> Failure<'a>
-    ensures { (s : Subject) → here.now.bindings.now ≡ bound_of s → IfSome result (FailsIn s) }
+/// What is wrong with a kept relocation of the object that has a number.
+fn wrong_place<'a>(bound: &BoundLink<'_, 'a>, object: usize, kept: &KeptRelocation) -> Failure<'a>
+    ensures { IfSome result (FailsIn bound.now) }
 {
-    let place = place_at(here, relocation)?;
+    let here = referrer_at(bound.bindings(), object)?;
+    let place = place_at(&here, kept)?;
     let (bindings, number, one) = (here.bindings, here.number, here.loaded);
     let entry = place.entry;
     let Some(kind) = kind_of(entry.kind()) else {
@@ -170,15 +170,17 @@ fn wrong_place<'a>(here: &Referrer<'_, '_, '_, 'a>, relocation: &KeptRelocation)
 /// Two kept relocations of an object, where the field of the second one begins inside that of the first one, in a link whose
 /// relocations aren't right.
 fn overlap<'a>(
-    here: &Referrer<'_, '_, '_, 'a>,
+    bound: &BoundLink<'_, 'a>,
+    object: usize,
     first: &KeptRelocation,
     second: &KeptRelocation,
 ) -> Failure<'a>
-    ensures { (s : Subject) → here.now.bindings.now ≡ bound_of s → ¬ AreRelocationsRight s
-        → IfSome result (FailsIn s) }
+    requires { ¬ AreRelocationsRight bound.now }
+    ensures { IfSome result (FailsIn bound.now) }
 {
-    let first = place_at(here, first)?;
-    let second = place_at(here, second)?;
+    let here = referrer_at(bound.bindings(), object)?;
+    let first = place_at(&here, first)?;
+    let second = place_at(&here, second)?;
     let width = width_of(&first.entry);
     if !begins_in(&first, width, &second, width_of(&second.entry)) {
         return None;
@@ -189,20 +191,20 @@ fn overlap<'a>(
 impl<'a> Found<'a> {
     /// Adds what is wrong with kept relocations of an object, and neighbours in the order of their sections and fields that
     /// share a byte.
-    fn add_object(&mut self, bound: &BoundLink<'_, 'a>, here: &Referrer<'_, '_, '_, 'a>) -> Added
+    fn add_object(&mut self, bound: &BoundLink<'_, 'a>, object: usize, one: &Loaded<'a>) -> Added
         requires before { AreFailures bound.now self.old.places.items }
-        requires here { here.now.bindings.now ≡ bound_of bound.now }
         requires fails { ¬ AreRelocationsRight bound.now }
         ensures { OnOk result (AreFailures bound.now self.new.places.items) }
     {
         let mut relocations = Vec::new(self.alloc);
-        for relocation in here.loaded.relocations() {
-            self.add_some(wrong_place(here, &relocation))?;
+        for relocation in one.relocations() {
+            self.add_some(wrong_place(bound, object, &relocation))?;
             relocations.push(relocation)?;
         }
         relocations.sort_by_key(|r| (r.section, r.entry.r_offset))?;
         for i in 1..relocations.len() {
-            self.add_some(overlap(here, &relocations[i - 1], &relocations[i]))?;
+            let (first, second) = (&relocations[i - 1], &relocations[i]);
+            self.add_some(overlap(bound, object, first, second))?;
         }
         Ok(())
     }
@@ -213,10 +215,8 @@ impl<'a> Found<'a> {
         requires fails { ¬ AreRelocationsRight bound.now }
         ensures { OnOk result (AreFailures bound.now self.new.places.items) }
     {
-        for number in 0..bound.bindings().objects().len() {
-            if let Some(here) = referrer_at(bound.bindings(), number) {
-                self.add_object(bound, &here)?;
-            }
+        for (object, one) in bound.bindings().objects().iter().enumerate() {
+            self.add_object(bound, object, one)?;
         }
         Ok(())
     }

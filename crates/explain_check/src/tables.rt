@@ -8,6 +8,7 @@ ghost use Rattle.explain_check.specs.Places.{AreFailures, FailsIn, IsInEntry, pa
 
 use crate::bytes::{at, other_number, wrong_byte, wrong_number};
 use crate::found::{Added, Found};
+use crate::place::NumberName::{HeadersCount, HeadersOffset, NamesSection};
 use crate::place::{ByteOf, CheckPlace, Failure, NumberName, TableEntry};
 use byteview::View;
 use check_stages::file_end;
@@ -108,9 +109,9 @@ impl<'a> Found<'a> {
         ensures { OnOk result (AreFailures bound.now self.new.places.items) }
     {
         self.add_some(wrongly_told(bound))?;
-        self.add_some(wrong_number(bound, NumberName::HeadersCount))?;
-        self.add_some(wrong_number(bound, NumberName::NamesSection))?;
-        self.add_some(wrong_number(bound, NumberName::HeadersOffset))?;
+        for name in [HeadersCount, NamesSection, HeadersOffset] {
+            self.add_some(wrong_number(bound, name))?;
+        }
         match bound.link().map.symtab {
             Some(_) => self.add_table(bound),
             None => Ok(()),

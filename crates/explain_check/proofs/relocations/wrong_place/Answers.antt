@@ -10,8 +10,9 @@ use Rattle.explain_check.proofs.WrongRelocations.{told_unfit, told_unlawful}
 use Rattle.explain_check.proofs.relocations.wrong_place.Goals as goal
 
 pub returns-in-Some-fault_with : goal.returns-in-Some-fault_with
-returns-in-Some-fault_with c = λ s is.
-    let h = c.args.here.now in
+returns-in-Some-fault_with c =
+    let h = c.in_ok-here.here in
+    let is = c.in_ok-here.ensures.bindings ∙ c.bindings.ensures in
     let p = c.in_ok-place.place in
     let to = c.relocated-to in
     let t = c.target_of_symbol-target in
@@ -23,8 +24,9 @@ returns-in-Some-fault_with c = λ s is.
     (kind_view c.in-Some.kind) (ap kind_of (sym c.kind.ensures) ∙ sym c.in-Some.ensures.kind) c.in-Some-fault_with.fault c.in-Some-fault_with.ensures)
 
 pub returns : goal.returns
-returns c = λ s is.
-    let h = c.args.here.now in
+returns c =
+    let h = c.in_ok-here.here in
+    let is = c.in_ok-here.ensures.bindings ∙ c.bindings.ensures in
     let p = c.in_ok-place.place in
     let to = c.relocated-to in
     let t = c.target_of_symbol-target in
