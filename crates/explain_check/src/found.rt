@@ -44,6 +44,7 @@ pub fn kind_of(place: &CheckPlace<'_>) -> Clause
 }
 
 /// The clause that fails at a place: what the place says of a link denies it.
+#[tactic(auto, using(crate::proofs::Denials::denies))]
 pub fn clause_of(place: &CheckPlace<'_>) -> Clause
     ensures clause { result ≡ clause_of place.now }
     ensures fails { (s : Subject) → FailsIn s place.now → ¬ Holds result s }

@@ -2,7 +2,7 @@ use Rattle.std.proofs.Common.{◌≡◌, ◌∙◌, Some, rules, sym}
 use Rattle.std.specs.List.{slice_get}
 use Rattle.elf_model.specs.Inputs.ObjectFile.{relas_of, sections}
 use Rattle.check_relocs.specs.Referrers.{object_here, objects_here}
-use Rattle.input_names.proofs.KeptPlaces.{HasNumbers, kept, placed}
+use Rattle.input_names.proofs.KeptPlaces.{kept, placed}
 use Rattle.explain_check.proofs.relocations.place_at.Goals as goal
 
 pub returns : goal.returns
@@ -13,16 +13,7 @@ returns c =
     let p = c.relocation_place-place.result in
     let h = c.in_ok-header.header in
     let x = c.in_ok-entry.entry in
-    let e = c.relocation_place-place.ensures in
-    let has : HasNumbers p o h r.number k.table k.number x = record {
-      object = e.object;
-      table = e.table;
-      number = e.number;
-      entry = e.entry;
-      section = e.section;
-      section_name = e.section_name;
-      symbol_name = e.symbol_name;
-    } in
+    let has = c.relocation_place-place.ensures in
     let kept_is = c.if-not-is_kept_rela.false in
     let there : slice_get (sections o.bytes) k.table ≡ Some h = search rules in
     let rela : h.sh_type ≡ 4 = c.is_kept_rela.ensures.rela kept_is in
