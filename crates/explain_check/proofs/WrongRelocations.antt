@@ -22,7 +22,13 @@ use Rattle.input_names.specs.declared.relocation_faults.RelocationFault.TheVaria
 use Rattle.input_names.specs.declared.relocation_places.RelocationPlace.{RelocationPlace}
 use Rattle.explain_check.specs.Places.{IsUnfit, IsUnlawful, IsWrongRelocation, IsWrongWith}
 
-module _ (h : Referrer) (p : RelocationPlace) (t : Target) (to : Relocated) (g : LinkTerms) (at : IsKeptOf (objects_here h) h.number (object_here h) p) (here : to.section ≡ p.section) (means : IsTargetOf h.bindings.now (symbol_here h (rela_symbol p.entry)) t) (relocated : IsRelocated h to) (slot : g.slot ≡ slot_address h.bindings.now.places.slots (entry_here h to.section p.entry) - got_start h.bindings.now.places.got) (got : g.got ≡ got_start h.bindings.now.places.got) (pointer : g.thread_pointer ≡ thread_pointer h.bindings.now.places.placed) where
+module _
+    (h : Referrer) (p : RelocationPlace) (t : Target) (to : Relocated) (g : LinkTerms)
+    (at : IsKeptOf (objects_here h) h.number (object_here h) p) (here : to.section ≡ p.section)
+    (means : IsTargetOf h.bindings.now (symbol_here h (rela_symbol p.entry)) t) (relocated : IsRelocated h to)
+    (slot : g.slot ≡ slot_address h.bindings.now.places.slots (entry_here h to.section p.entry) - got_start h.bindings.now.places.got)
+    (got : g.got ≡ got_start h.bindings.now.places.got)
+    (pointer : g.thread_pointer ≡ thread_pointer h.bindings.now.places.placed) where
   abbrev e : Rela
   e = p.entry
 
