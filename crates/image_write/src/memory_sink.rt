@@ -1,7 +1,7 @@
 //! A device over memory.
-ghost use Rattle.std.specs.Prelude.{◌≡◌, [], IfOk, Some};
+ghost use Rattle.std.specs.Prelude.{◌≡◌, ◌+◌, [], IfOk, Some};
 
-use crate::sink::{Sink, SinkFault};
+use crate::sink::{HoleSink, Sink, SinkFault};
 use std::alloc::{AllocError, Global};
 
 /// Bytes that were taken, as long as memory is had for them.
@@ -23,6 +23,16 @@ impl MemorySink {
         })
     }
 
+    /// Counts the first failure.
+    fn fail(&mut self) -> SinkFault
+        requires { self.old.failures ≡ 0 }
+        ensures counted { self.new.failures ≡ self.old.failures + 1 }
+        ensures kept { self.new.bytes ≡ self.old.bytes }
+    {
+        self.failures += 1;
+        SinkFault
+    }
+
     /// The bytes that were taken.
     pub fn into_bytes(self) -> Vec<u8>
         ensures { result.items ≡ self.bytes.items }
@@ -39,14 +49,23 @@ impl Sink for MemorySink {
     fn put(&mut self, bytes: &[u8]) -> Result<usize, SinkFault> {
         match self.bytes.extend_from_slice(bytes) {
             Ok(()) => Ok(bytes.len()),
-            Err(_) => {
-                self.failures += 1;
-                Err(SinkFault)
-            }
+            Err(_) => Err(self.fail()),
         }
     }
 
     fn failures(&self) -> u64 {
         self.failures
+    }
+}
+
+impl HoleSink for MemorySink {
+    fn pass(&mut self, count: u64) -> Result<(), SinkFault> {
+        let Some(len) = self.bytes.len().checked_add(count as usize) else {
+            return Err(self.fail());
+        };
+        match self.bytes.resize(len, 0) {
+            Ok(()) => Ok(()),
+            Err(_) => Err(self.fail()),
+        }
     }
 }

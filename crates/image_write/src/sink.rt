@@ -1,6 +1,6 @@
 //! Devices that take an image's bytes, and their faults.
-ghost use Rattle.std.specs.Prelude.{◌≡◌, ◌+◌, ◌<◌, ◌≤◌, ℕ, List, Option, IfErr, IfOk, OnErr, OnOk, length, take};
-ghost use Rattle.image_write.specs.Streams.{Took};
+ghost use Rattle.std.specs.Prelude.{◌≡◌, ◌+◌, ◌<◌, ◌≤◌, ℕ, List, Option, IfErr, IfOk, OnErr, OnOk, length, replicate, take};
+ghost use Rattle.image_write.specs.Streams.{Took, TookPart};
 ghost use Rattle.image_write.specs.declared.sink.WriteFault.TheVariants as write_fault;
 
 use std::alloc::AllocError;
@@ -64,4 +64,22 @@ pub trait Sink {
     /// How many calls of `put` have failed.
     fn failures(&self) -> u64
         ensures { result ≡ failed self.now };
+}
+
+/// A sink that may be told how many zeros come, in place of being given them, as a file that has a hole there.
+pub trait HoleSink: Sink {
+    /// Takes so many zeros.
+    ///
+    /// # Errors
+    ///
+    /// Where the device refuses them: it has then taken some of them, and counts one failure more. It is not called again
+    /// after a failure.
+    fn pass(&mut self, count: u64) -> Result<(), SinkFault>
+        requires whole { Self.failed self.old ≡ 0 }
+        ensures took { OnOk result (Took (Self.told self.old) (replicate count 0)
+            (Self.told self.new)) }
+        ensures kept { OnOk result (Self.failed self.new ≡ 0) }
+        ensures refused { OnErr result (TookPart (Self.told self.old) (replicate count 0)
+            (Self.told self.new)) }
+        ensures failure { OnErr result (Self.failed self.new ≡ Self.failed self.old + 1) };
 }

@@ -1,6 +1,6 @@
 //! Bytes that go to a device through a buffer, and straight where they are many.
-ghost use Rattle.std.specs.Prelude.{◌≡◌, ◌<◌, [], OnOk, length, replicate};
-ghost use Rattle.image_write.specs.Streams.{Puts, stream};
+ghost use Rattle.std.specs.Prelude.{◌≡◌, ◌+◌, ◌<◌, [], OnErr, OnOk, length, replicate};
+ghost use Rattle.image_write.specs.Streams.{Puts, Took, TookPart, stream};
 
 use crate::buffer::{BUFFER_SIZE, Buffer};
 use crate::sink::{Sink, SinkFault};
@@ -18,6 +18,21 @@ fn hand<S: Sink>(sink: &mut S, bytes: &[u8]) -> Result<(), SinkFault>
         rest = behind;
     }
     Ok(())
+}
+
+/// Gives a device bytes until it has taken all.
+///
+/// # Errors
+///
+/// Where the device fails: it has then taken a beginning of the bytes, and is given no more.
+pub fn put_all<S: Sink>(sink: &mut S, bytes: &[u8]) -> Result<(), SinkFault>
+    requires { S.failed sink.old ≡ 0 }
+    ensures took { OnOk result (Took (S.told sink.old) bytes.now (S.told sink.new)) }
+    ensures kept { OnOk result (S.failed sink.new ≡ 0) }
+    ensures part { OnErr result (TookPart (S.told sink.old) bytes.now (S.told sink.new)) }
+    ensures failure { OnErr result (S.failed sink.new ≡ S.failed sink.old + 1) }
+{
+    hand(sink, bytes)
 }
 
 /// Gives the device what the buffer holds, which is then empty.
