@@ -1,14 +1,14 @@
 //! A file as the device that takes an image.
-ghost use Rattle.std.specs.Prelude.{◌≡◌, ◌+◌, ◌<◌, ◌≤◌, false, true, None, IfErr, IfOk, OnErr, OnOk, length, replicate, take};
-ghost use Rattle.std.specs.Io.KnownBytes.{Appends, Keeps};
+ghost use Rattle.std.specs.Prelude.{◌≡◌, ◌+◌, ◌<◌, ◌≤◌, IfOk, OnErr, OnOk, length, replicate, take};
+ghost use Rattle.image_write.specs.Streams.{Took, TookPart};
 
 use crate::sparse::SparseWrite;
 use crate::zero_pages::{PAGE, before_zeros, zeros_ahead};
-use image_write::{Sink, SinkFault};
-use std::io::{ErrorKind, Write};
+use image_write::{HoleSink, Sink, SinkFault};
+use std::io::ErrorKind;
 
-/// A file, or another writer, that takes an image. It doesn't tell the bytes that it took; a writer
-/// that knows its contents has them there, with the zeros that it passed over.
+/// A file, or another writer, that takes an image. It tells the bytes that it took where the writer tells what it holds, with
+/// the zeros that were passed over.
 #[derive(Drop)]
 pub struct FileSink<F: SparseWrite + Drop> {
     file: F,
@@ -29,14 +29,14 @@ const RUN: usize = 262_144;
 
 /// Writes the first of some bytes, and answers how many they are; where the writer refuses them, it
 /// has taken none.
-fn write_some<F: Write>(file: &mut F, bytes: &[u8]) -> Result<usize, SinkFault>
+fn write_some<F: SparseWrite>(file: &mut F, bytes: &[u8]) -> Result<usize, SinkFault>
     ensures count { IfOk result (λ n. (0 < n) × (n ≤ length bytes.now)) }
     ensures written { IfOk result (λ n.
-        Appends (F.contents file.old) (F.contents file.new) (take n bytes.now)) }
-    ensures refused { OnErr result (Keeps (F.contents file.old) (F.contents file.new)) }
+        Took (F.held file.old) (take n bytes.now) (F.held file.new)) }
+    ensures refused { OnErr result (F.held file.new ≡ F.held file.old) }
 {
     'tries: for _ in 0..TRIES {
-        match file.write(bytes) {
+        match file.write_some(bytes) {
             Ok(0) => return Err(SinkFault),
             Ok(count) => return Ok(count),
             Err(error) => {
@@ -51,7 +51,7 @@ fn write_some<F: Write>(file: &mut F, bytes: &[u8]) -> Result<usize, SinkFault>
 
 /// Writes the first of some bytes, those before the first page of zeros that begins `first` bytes
 /// on or whole pages later.
-fn write_before_zeros<F: Write>(
+fn write_before_zeros<F: SparseWrite>(
     file: &mut F,
     bytes: &[u8],
     first: usize,
@@ -60,8 +60,8 @@ fn write_before_zeros<F: Write>(
     requires further { 0 < first }
     ensures count { IfOk result (λ n. (0 < n) × (n ≤ length bytes.now)) }
     ensures written { IfOk result (λ n.
-        Appends (F.contents file.old) (F.contents file.new) (take n bytes.now)) }
-    ensures refused { OnErr result (Keeps (F.contents file.old) (F.contents file.new)) }
+        Took (F.held file.old) (take n bytes.now) (F.held file.new)) }
+    ensures refused { OnErr result (F.held file.new ≡ F.held file.old) }
 {
     let (run, _) = bytes.split_at(bytes.len().min(RUN));
     let (part, _) = run.split_at(before_zeros(run, first));
@@ -72,8 +72,8 @@ fn write_before_zeros<F: Write>(
 fn pass<F: SparseWrite>(file: &mut F, zeros: usize) -> Result<usize, SinkFault>
     ensures count { IfOk result (λ n. n ≡ zeros) }
     ensures written { IfOk result (λ n.
-        Appends (F.contents file.old) (F.contents file.new) (replicate n 0)) }
-    ensures refused { OnErr result (Keeps (F.contents file.old) (F.contents file.new)) }
+        Took (F.held file.old) (replicate n 0) (F.held file.new)) }
+    ensures refused { OnErr result (F.held file.new ≡ F.held file.old) }
 {
     match file.skip(zeros as u64) {
         Ok(()) => Ok(zeros),
@@ -105,8 +105,8 @@ fn put_sparse<F: SparseWrite>(
     requires inside { within < PAGE }
     ensures count { IfOk result (λ t. (0 < t.0) × (t.0 ≤ length bytes.now)) }
     ensures written { IfOk result (λ t.
-        Appends (F.contents file.old) (F.contents file.new) (take t.0 bytes.now)) }
-    ensures refused { OnErr result (Keeps (F.contents file.old) (F.contents file.new)) }
+        Took (F.held file.old) (take t.0 bytes.now) (F.held file.new)) }
+    ensures refused { OnErr result (F.held file.new ≡ F.held file.old) }
 {
     let zeros = zeros_to_pass(bytes, within);
     if zeros > 0 {
@@ -128,8 +128,8 @@ fn put_some<F: SparseWrite>(
     requires some { 0 < length bytes.now }
     ensures count { IfOk result (λ t. (0 < t.0) × (t.0 ≤ length bytes.now)) }
     ensures written { IfOk result (λ t.
-        Appends (F.contents file.old) (F.contents file.new) (take t.0 bytes.now)) }
-    ensures refused { OnErr result (Keeps (F.contents file.old) (F.contents file.new)) }
+        Took (F.held file.old) (take t.0 bytes.now) (F.held file.new)) }
+    ensures refused { OnErr result (F.held file.new ≡ F.held file.old) }
 {
     if sparse {
         return put_sparse(file, bytes, (taken % PAGE as u64) as usize);
@@ -142,7 +142,8 @@ impl<F: SparseWrite + Drop> FileSink<F> {
     /// A file that nothing was put into yet. In a sparse one pages of zeros, of 4096 bytes from the
     /// first byte that is put on, are passed over; another one, as a device is, is given each byte.
     pub fn new(file: F, sparse: bool) -> FileSink<F>
-        ensures { result.failures ≡ 0 }
+        ensures whole { result.failures ≡ 0 }
+        ensures file { result.file ≡ file }
     {
         FileSink {
             file,
@@ -154,7 +155,9 @@ impl<F: SparseWrite + Drop> FileSink<F> {
     }
 
     /// The file.
-    pub fn file(&self) -> &F {
+    pub fn file(&self) -> &F
+        ensures { result.now ≡ self.now.file }
+    {
         &self.file
     }
 
@@ -165,7 +168,7 @@ impl<F: SparseWrite + Drop> FileSink<F> {
     ///
     /// SinkFault where the file doesn't take its length.
     pub fn end(&mut self) -> Result<(), SinkFault>
-        ensures { Keeps (F.contents self.old.file) (F.contents self.new.file) }
+        ensures { F.held self.new.file ≡ F.held self.old.file }
     {
         if !self.is_open {
             return Ok(());
@@ -178,21 +181,11 @@ impl<F: SparseWrite + Drop> FileSink<F> {
 }
 
 impl<F: SparseWrite + Drop> Sink for FileSink<F> {
-    ghost told = { λ _. None };
+    ghost told = { λ s. F.held s.file };
 
     ghost failed = { λ s. s.failures };
 
-    fn put(&mut self, bytes: &[u8]) -> Result<usize, SinkFault>
-        requires some { 0 < length bytes.now }
-        requires whole { self.old.failures ≡ 0 }
-        ensures count { IfOk result (λ n. (0 < n) × (n ≤ length bytes.now)) }
-        ensures written { IfOk result (λ n.
-            Appends (F.contents self.old.file) (F.contents self.new.file) (take n bytes.now)) }
-        ensures refused { OnErr result (Keeps (F.contents self.old.file)
-            (F.contents self.new.file)) }
-        ensures kept { OnOk result (self.new.failures ≡ 0) }
-        ensures failure { OnErr result (self.new.failures ≡ self.old.failures + 1) }
-    {
+    fn put(&mut self, bytes: &[u8]) -> Result<usize, SinkFault> {
         match put_some(&mut self.file, bytes, self.sparse, self.taken) {
             Ok((count, passed)) => {
                 self.taken = self.taken.wrapping_add(count as u64);
@@ -208,5 +201,57 @@ impl<F: SparseWrite + Drop> Sink for FileSink<F> {
 
     fn failures(&self) -> u64 {
         self.failures
+    }
+}
+
+/// Zeros that are written where none can be passed over.
+static ZEROS: [u8; PAGE] = [0; PAGE];
+
+/// At most so many zeros, and at least one of them.
+fn zeros(most: u64) -> &'static [u8]
+    ensures zeros { result.now ≡ replicate (length result.now) 0 }
+    ensures within { length result.now ≤ most }
+    ensures some { 0 < most → 0 < length result.now }
+{
+    let (run, _) = ZEROS.split_at(most.min(PAGE as u64) as usize);
+    run
+}
+
+/// Gives a sink zeros until it has taken so many.
+///
+/// # Errors
+///
+/// Where the sink fails: it has then taken some of them, and isn't given more.
+pub fn put_zeros<S: Sink>(sink: &mut S, count: u64) -> Result<(), SinkFault>
+    requires { S.failed sink.old ≡ 0 }
+    ensures took { OnOk result (Took (S.told sink.old) (replicate count 0) (S.told sink.new)) }
+    ensures kept { OnOk result (S.failed sink.new ≡ 0) }
+    ensures refused { OnErr result (TookPart (S.told sink.old) (replicate count 0)
+        (S.told sink.new)) }
+    ensures failure { OnErr result (S.failed sink.new ≡ S.failed sink.old + 1) }
+{
+    let mut left = count;
+    while left > 0 {
+        left -= sink.put(zeros(left))? as u64;
+    }
+    Ok(())
+}
+
+impl<F: SparseWrite + Drop> HoleSink for FileSink<F> {
+    fn pass(&mut self, count: u64) -> Result<(), SinkFault> {
+        if !self.sparse || count < PAGE as u64 {
+            return put_zeros(self, count);
+        }
+        match self.file.skip(count) {
+            Ok(()) => {
+                self.taken = self.taken.wrapping_add(count);
+                self.is_open = true;
+                Ok(())
+            }
+            Err(_) => {
+                self.failures += 1;
+                Err(SinkFault)
+            }
+        }
     }
 }

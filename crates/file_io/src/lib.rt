@@ -12,7 +12,7 @@ mod sparse;
 mod zero_pages;
 
 pub use file_ids::{FileId, OutputPath, file_id, overwritten};
-pub use file_sink::FileSink;
+pub use file_sink::{FileSink, put_zeros};
 pub use file_source::{FetchFault, FileSource, GatherFault, gather};
 pub use real_files::{RealFiles, make_executable, read_whole};
 pub use sparse::{SparseFile, SparseWrite};

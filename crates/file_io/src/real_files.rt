@@ -1,5 +1,9 @@
 //! The files of the system: read as input, and written as an image.
-ghost use Rattle.std.specs.Prelude.{◌≡◌, None};
+ghost use Rattle.std.specs.Prelude.{◌≡◌, ℕ, List, Option, None, Some, IfErr, IfOk, OnOk, option_map};
+ghost use Rattle.std.specs.Borrow.{Bor};
+ghost use Rattle.std.specs.Option.{option_or};
+ghost use Rattle.file_io.specs.FileIds.{IsOverwritten};
+ghost use Rattle.file_io.specs.Sources.{FetchFails};
 
 use crate::file_ids::{FileId, OutputPath, file_id, overwritten};
 use crate::file_source::{FetchFault, FileSource};
@@ -90,20 +94,34 @@ impl<'r, 'a, R: Files + AllocGlobal> RealFiles<'r, 'a, R> {
 
     /// A path that will be written, and is one of the files that were read; None where there is
     /// none.
-    pub fn overwritten(&self) -> Option<&'a str> {
+    pub fn overwritten(&self) -> Option<&'a str>
+        ensures { result ≡ self.now.overwritten }
+    {
         self.overwritten
     }
-}
 
-impl<'r, 'a, R: Files + AllocGlobal> FileSource for RealFiles<'r, 'a, R> {
-    ghost files = { λ _. None };
+    /// Notes a path that will be written where it is the file at a path that was read; the first one that is noted stays.
+    fn note(&mut self, path: &str, id: Option<FileId>)
+        ensures first { (told : Option (Bor (List ℕ)))
+            × IsOverwritten self.old.outputs.now path.now id told
+            × (self.new.overwritten ≡ option_or self.old.overwritten told) }
+        ensures kept { self.new.failures ≡ self.old.failures }
+    {
+        let told = overwritten(self.outputs, path, id);
+        self.overwritten = self.overwritten.or(told);
+    }
 
-    ghost failed = { λ f. f.failures };
-
-    fn fetch(&mut self, path: &str) -> Result<Option<Vec<u8>>, FetchFault> {
+    /// As `fetch`; what was noted before stays.
+    fn fetched(&mut self, path: &str) -> Result<Option<Vec<u8>>, FetchFault>
+        requires { self.old.failures ≡ 0 }
+        ensures kept { OnOk result (self.new.failures ≡ self.old.failures) }
+        ensures fault { IfErr result (λ f. FetchFails f self.old.failures self.new.failures) }
+        ensures noted { (p : Bor (List ℕ)) → self.old.overwritten ≡ Some p
+            → self.new.overwritten ≡ Some p }
+    {
         match read_with_id(self.rt, path) {
             Ok(Some((bytes, id))) => {
-                self.overwritten = self.overwritten.or(overwritten(self.outputs, path, id));
+                self.note(path, id);
                 Ok(Some(bytes))
             }
             Ok(None) => Ok(None),
@@ -115,6 +133,16 @@ impl<'r, 'a, R: Files + AllocGlobal> FileSource for RealFiles<'r, 'a, R> {
                 }
             },
         }
+    }
+}
+
+impl<'r, 'a, R: Files + AllocGlobal> FileSource for RealFiles<'r, 'a, R> {
+    ghost files = { λ _. None };
+
+    ghost failed = { λ f. f.failures };
+
+    fn fetch(&mut self, path: &str) -> Result<Option<Vec<u8>>, FetchFault> {
+        self.fetched(path)
     }
 
     fn failures(&self) -> u64 {
