@@ -15,7 +15,6 @@ mod refusals;
 mod slot_lines;
 mod spelled_lines;
 
-pub use line_sink::LineFile;
 pub use listed_definitions::definitions;
 pub use own_text::{map_text, write_map};
 pub use phases::{link_map, prepare, prepare_in, prepare_seeded};

@@ -18,19 +18,18 @@ ghost use Rattle.image_write.specs.Tables.{HasTable, IsInRange, line_of};
 ghost use Rattle.linker.specs.Linkages.{IsOwnText, PutsOwnText};
 ghost use Rattle.linker.specs.OwnDefinitions.{meanings_of, table_with};
 
-use crate::line_sink::{LineFile, LineSink};
+use crate::line_sink::{LineFile, LineSink, room_for_run};
 use crate::own_definitions::{OwnDefinitions, own_definitions, put_own_commons, put_own_symbols};
 use crate::own_map::{MAP_VERSION, address_of, has_drop_line, row_definition, symtab_line};
 use crate::slot_lines::got_line;
 use elf_model::DropLine;
 use got_tls::{Slot, Slots};
-use image_write::{Linkage, SymbolTable, WriteFault, definition_value};
+use image_write::{Linkage, Sink, SymbolTable, WriteFault, definition_value};
 use layout::Placement;
 use linkmap::Line;
 use resolve::Definition;
 use search::{Loaded, LoadedObject};
 use std::alloc::{AllocError, Global};
-use std::io::Write;
 
 /// The lines of loaded objects.
 fn put_objects<T: LineSink>(text: &mut T, objects: &[LoadedObject<'_>]) -> Result<(), T::Fault>
@@ -338,16 +337,36 @@ pub fn map_text(alloc: Global, linkage: &Linkage<'_>) -> Result<Vec<u8>, AllocEr
     Ok(text)
 }
 
-/// Writes the text of a link's map behind what a file has.
-pub fn write_map<F: Write + Drop>(
+/// Puts the text of a link's map, and gives the device all of it.
+fn put_whole_map<S: Sink + Drop>(
     alloc: Global,
-    file: &mut LineFile<F>,
+    lines: &mut LineFile<S>,
     linkage: &Linkage<'_>,
 ) -> Result<(), WriteFault>
     ensures { OnOk result (PutsOwnText linkage.now
-        (append_known (F.contents file.old.file) file.old.run.items)
-        (F.contents file.new.file)) }
+        (append_known (S.told lines.old.sink) lines.old.run.items) (S.told lines.new.sink)) }
 {
-    put_map(alloc, file, linkage)?;
-    file.finish()
+    put_map(alloc, lines, linkage)?;
+    lines.finish()
+}
+
+/// Writes the text of a link's map to a device, by runs of 64 KiB, and hands the device back.
+///
+/// # Errors
+///
+/// Memory where memory is refused, Device where the device fails, which isn't called again then: it may have taken a part.
+pub fn write_map<S: Sink + Drop>(
+    alloc: Global,
+    linkage: &Linkage<'_>,
+    sink: S,
+) -> (S, Result<(), WriteFault>)
+    ensures { OnOk result.1 (PutsOwnText linkage.now (S.told sink) (S.told result.0)) }
+{
+    let run = match room_for_run(alloc) {
+        Ok(run) => run,
+        Err(_) => return (sink, Err(WriteFault::Memory)),
+    };
+    let mut lines = LineFile::new(sink, run);
+    let done = put_whole_map(alloc, &mut lines, linkage);
+    (lines.into_sink(), done)
 }
