@@ -1,26 +1,16 @@
--- The names of new files, and what is written.
-use Rattle.std.specs.Prelude.{◌≡◌, ℕ, List, ◌++◌, codes}
+-- The names of new files.
+use Rattle.std.specs.Prelude.{◌≡◌, ◌≤◌, ℕ, List, [], ◌++◌, codes, take}
 use Rattle.std.specs.Fmt.{decimal}
-use Rattle.std.specs.Path.{path_with_file_name}
-use Rattle.elf_model.specs.Inputs.Files.{File}
-use Rattle.image_write.specs.Linkages.{Linked}
-use Rattle.linker.specs.Linkages.{HasOwnLink}
-use Rattle.ld_main.specs.declared.new_file.Content.{Content}
-use Rattle.ld_main.specs.declared.new_file.Content.TheVariants as content
+use Rattle.std.specs.Option.{unwrap_or}
+use Rattle.std.specs.Path.{path_file_name, path_with_file_name}
 
--- the path of a new file, by a number, in the folder of a path
-abbrev pub beside : List ℕ → ℕ → List ℕ
-beside path n = path_with_file_name path (codes ".ld-" ++ decimal n)
+-- the name of a new file for a file of a name, of which it has the first bytes, by a number
+abbrev pub new_name : List ℕ → ℕ → List ℕ
+new_name front n = codes "." ++ (front ++ (codes ".ld-" ++ decimal n))
 
--- a path is that of such a file
-abbrev pub IsBeside : List ℕ → List ℕ → Type 0
-IsBeside path new = (n : ℕ) × (new ≡ beside path n)
-
--- a prepared link is that of some files by some words, and right
-abbrev pub IsSomeLink : Linked → Type 0
-IsSomeLink l = (files : List File) × (words : List (List ℕ)) × HasOwnLink files words l
-
--- what is written is the image or the map of a right link
-abbrev pub IsOfLink : Content → Type 0
-IsOfLink (content.Image l) = IsSomeLink l.now
-IsOfLink (content.Map l) = IsSomeLink l.now
+-- a path is that of such a file in the folder of a path; it has at most 200 bytes of the name there
+pub record IsBeside (path new : List ℕ) : Type 0 where
+  pub number : ℕ
+  pub kept : ℕ
+  pub short : kept ≤ 200
+  pub is : new ≡ path_with_file_name path (new_name (take kept (unwrap_or (path_file_name path) [])) number)

@@ -1,16 +1,19 @@
--- The exit statuses of the program, and what they say.
-use Rattle.std.specs.Prelude.{◌≡◌, ℕ, List, Bool, true, false, Ok}
+-- The exit statuses of the program and its lines, and what they say.
+use Rattle.std.specs.Prelude.{◌≡◌, ◌↔◌, ℕ, List, Option, [], ◌∷◌, ◌++◌, Bool, true, false, Ok, codes}
+use Rattle.std.specs.Fmt.{decimal}
+use Rattle.std.specs.Io.KnownBytes.{Appends}
 use Rattle.elf_model.specs.Inputs.Command.{Plan, command_of}
 use Rattle.elf_model.specs.Inputs.Files.{File}
-use Rattle.elf_model.specs.Image.RightLink.{IsRightLink}
+use Rattle.elf_model.specs.Image.RightLink.{IsRightLink, Least, clause_number}
 use Rattle.elf_model.specs.declared.faults.CmdFault.{CmdFault}
 use Rattle.elf_model.specs.declared.faults.LinkError.{LinkError}
 use Rattle.elf_model.specs.declared.faults.LinkError.TheVariants as error
+use Rattle.elf_model.specs.declared.verdict.Clause.{Clause}
 use Rattle.linker.specs.Refusals.{of_command}
-use Rattle.ld_main.specs.declared.program.Failure.{Failure}
-use Rattle.ld_main.specs.declared.program.Failure.TheVariants as failure
-use Rattle.ld_main.specs.declared.program.Outcome.{Outcome}
-use Rattle.ld_main.specs.declared.program.Outcome.TheVariants as outcome
+use Rattle.ld_main.specs.declared.failure.Failure.{Failure}
+use Rattle.ld_main.specs.declared.failure.Failure.TheVariants as failure
+use Rattle.ld_main.specs.declared.outcome.Outcome.{Outcome}
+use Rattle.ld_main.specs.declared.outcome.Outcome.TheVariants as outcome
 
 -- an image and the text of a map are a right link of these files by these words
 abbrev pub LinksRight : List File → List (List ℕ) → Type 0
@@ -41,10 +44,35 @@ abbrev pub outcome_status : Outcome → ℕ
 outcome_status (outcome.Wrong c) = 1
 outcome_status _ = 0
 
+-- the line of a clause that fails, and what is printed of an outcome
+abbrev pub clause_line : Clause → List ℕ
+clause_line c = codes "no C" ++ decimal (clause_number c) ++ 10 ∷ []
+
+abbrev pub outcome_text : Outcome → List ℕ
+outcome_text outcome.Linked = []
+outcome_text outcome.Right = codes "yes\n"
+outcome_text (outcome.Wrong c) = clause_line c
+
 -- an outcome is one of a check
 abbrev pub is_checked : Outcome → Bool
 is_checked outcome.Linked = false
 is_checked _ = true
+
+-- an outcome is that of the check of an image and the text of a map, and of files by words: exactly a right link is right, and
+-- exactly the least clause that fails is told
+pub record Judges (files : List File) (words : List (List ℕ)) (image text : List ℕ) (o : Outcome) : Type 0 where
+  pub checked : is_checked o ≡ true
+  pub right : (o ≡ outcome.Right) ↔ IsRightLink files words image text
+  pub wrong : (c : Clause) → (o ≡ outcome.Wrong c) ↔ Least c files words image text
+
+-- the same of an image and a text that were read
+abbrev pub JudgesSome : List File → List (List ℕ) → Outcome → Type 0
+JudgesSome files words o = (image : List ℕ) × (text : List ℕ) × Judges files words image text o
+
+-- what is printed of the check of files, an image and a text by words, with a status
+abbrev pub Prints : List (List ℕ) → ℕ → Option (List ℕ) → Option (List ℕ) → Type 0
+Prints words status old new =
+    (files : List File) × (o : Outcome) × JudgesSome files words o × (status ≡ outcome_status o) × Appends old new (outcome_text o)
 
 -- a command that the words are asks for a check, or for none
 abbrev pub Asks : Bool → List (List ℕ) → Type 0

@@ -5,16 +5,26 @@
 #![tactic(auto)]
 
 mod command_line;
+mod content;
+mod failure;
+mod inputs;
 mod new_file;
+mod outcome;
 mod output;
 mod program;
+mod writing;
 
 pub use checker::{Clause, Verdict, check, check_in};
-pub use command_line::{no_words, run_args, words};
+pub use command_line::{given_words, run_args};
+pub use content::{Content, ImageOf, MapOf};
 pub use elf_model::LinkError;
-pub use file_io::{FetchFault, FileSource, GatherFault, RealFiles, gather, make_executable};
+pub use failure::{Failure, refused};
+pub use file_io::{FetchFault, FileSource, GatherFault, RealFiles, gather};
 pub use image_write::{Linkage, Sink, SinkFault, WriteFault, image, write_image};
+pub use inputs::{outputs, read_file, read_files, read_other_files};
 pub use linker::{definitions, link_map, map_text, prepare, prepare_in, prepare_seeded};
 pub use new_file::NewFile;
+pub use outcome::Outcome;
 pub use output::{Output, link};
-pub use program::{Failure, read_file, read_files, refused, run_ld};
+pub use program::{Task, name_seed, read_input, run_ld};
+pub use writing::{Outputs, write_outputs};

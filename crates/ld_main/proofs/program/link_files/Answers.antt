@@ -2,7 +2,7 @@ use Rattle.std.proofs.Common.{◌≡◌, ◌≤◌, sym, subst, arith}
 use Rattle.std.specs.Prelude.{Err, IfErr, Result}
 use Rattle.std.proofs.lemmas.Result.{err_from_is_err_and}
 use Rattle.ld_main.specs.Program.{failure_status}
-use Rattle.ld_main.specs.declared.program.Failure.{Failure}
+use Rattle.ld_main.specs.declared.failure.Failure.{Failure}
 use Rattle.ld_main.proofs.program.link_files.Goals as goal
 
 -- a failure of another status than that of the words
@@ -13,6 +13,6 @@ unwritten {X} Q r f is high =
     subst (λ (s : Result X Failure). IfErr s (λ e. failure_status e ≡ 2 → Q)) (sym is.1)
     (subst (λ (e : Failure). failure_status e ≡ 2 → Q) (sym is.2) (λ two. absurd (omega (arith, two, high))))
 
-pub returns-in_err-write_files-clause-words_alone : goal.returns-in_err-write_files-clause-words_alone
-returns-in_err-write_files-clause-words_alone g c =
-    unwritten _ c.from_residual.result c.in_err-write_files.field-0.0 (err_from_is_err_and c.from_residual.result c.from_residual.ensures.1) c.in_err-write_files.ensures
+pub returns-in_err-write_outputs-clause-words_alone : goal.returns-in_err-write_outputs-clause-words_alone
+returns-in_err-write_outputs-clause-words_alone g c =
+    unwritten _ c.from_residual.result c.in_err-write_outputs.field-0.0 (err_from_is_err_and c.from_residual.result c.from_residual.ensures.1) c.in_err-write_outputs.ensures

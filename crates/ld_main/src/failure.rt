@@ -1,0 +1,162 @@
+//! Why a run ends with a line on standard error.
+ghost use Rattle.std.specs.Prelude.{◌≡◌, ◌⊎◌, ◌≤◌};
+ghost use Rattle.ld_main.specs.Program.{error_status, failure_status, words_status};
+
+use elf_model::{CmdFault, LinkError};
+use file_io::GatherFault;
+use image_write::WriteFault;
+use linker::command_error;
+use linkmap::escape;
+use std::alloc::{AllocError, AllocFailed, Global};
+use std::borrow::CowStr;
+use std::io;
+use std::io::{ErrorKind, Write};
+
+/// Why a run ends with a line on standard error.
+#[derive(Debug, Drop)]
+pub enum Failure<'a> {
+    /// The words or the link are refused; a symbol that the refusal names, as a map spells it.
+    Refused {
+        error: LinkError,
+        symbol: Option<Vec<u8>>,
+    },
+    /// The path of a file that there may be, and that was not read.
+    CannotRead(CowStr<'a>),
+    /// The path of a file that was not written, or of a device that was written only in part.
+    CannotWrite(&'a str),
+}
+
+impl<'a> From<LinkError> for Failure<'a> {
+    ghost from_gives = { λ error failure. failure_status failure ≡ error_status error };
+
+    fn from(error: LinkError) -> Failure<'a> {
+        Failure::Refused {
+            error,
+            symbol: None,
+        }
+    }
+}
+
+impl<'a> From<CmdFault> for Failure<'a> {
+    ghost from_gives = { λ fault failure. failure_status failure ≡ words_status fault };
+
+    fn from(fault: CmdFault) -> Failure<'a> {
+        Failure::from(command_error(fault))
+    }
+}
+
+impl<'a> From<AllocError> for Failure<'a> {
+    ghost from_gives = { λ _ failure. failure_status failure ≡ 4 };
+
+    fn from(_error: AllocError) -> Failure<'a> {
+        Failure::from(LinkError::Memory)
+    }
+}
+
+impl<'a, T: Drop> From<AllocFailed<T>> for Failure<'a> {
+    ghost from_gives = { λ _ failure. failure_status failure ≡ 4 };
+
+    fn from(_error: AllocFailed<T>) -> Failure<'a> {
+        Failure::from(LinkError::Memory)
+    }
+}
+
+impl<'a> From<GatherFault> for Failure<'a> {
+    ghost from_gives = { λ _ failure. 3 ≤ failure_status failure };
+
+    fn from(fault: GatherFault) -> Failure<'a> {
+        match fault {
+            GatherFault::Memory => Failure::from(LinkError::Memory),
+            GatherFault::CannotRead(path) => Failure::CannotRead(CowStr::Owned(path)),
+        }
+    }
+}
+
+impl Failure<'_> {
+    /// 1 for a refused link, 2 for refused words, 3 for a fault of a file, 4 for want of memory.
+    pub fn status(&self) -> u8
+        ensures { result ≡ failure_status self.now }
+    {
+        match self {
+            Failure::Refused { error, symbol: _ } => status_of(error),
+            Failure::CannotRead(_) | Failure::CannotWrite(_) => 3,
+        }
+    }
+
+    /// Prints the failure's line, and takes no memory.
+    pub fn print<W: Write>(&self, err: &mut W) -> io::Result<()> {
+        match self {
+            Failure::Refused { error, symbol } => print_refusal(err, error, symbol.as_deref()),
+            Failure::CannotRead(path) => writeln!(err, "ld: cannot read {path}"),
+            Failure::CannotWrite(path) => writeln!(err, "ld: cannot write {path}"),
+        }
+    }
+}
+
+fn status_of(error: &LinkError) -> u8
+    ensures { result ≡ error_status error.now }
+{
+    match error {
+        LinkError::Command(_) => 2,
+        LinkError::FileMissing => 3,
+        LinkError::Memory => 4,
+        _ => 1,
+    }
+}
+
+fn print_refusal<W: Write>(
+    err: &mut W,
+    error: &LinkError,
+    symbol: Option<&[u8]>,
+) -> io::Result<()> {
+    write!(err, "ld: {error}")?;
+    if let Some(name) = symbol {
+        err.write_all(b": ")?;
+        err.write_all(name)?;
+    }
+    err.write_all(b"\n")
+}
+
+/// The symbol that a refusal names.
+fn symbol_of(error: &LinkError) -> Option<&[u8]> {
+    match error {
+        LinkError::Duplicate(name) | LinkError::Undefined(name) => Some(name.as_slice()),
+        _ => None,
+    }
+}
+
+/// A refusal together with the spelling of the symbol that it names.
+pub fn refused<'a>(alloc: Global, error: LinkError) -> Failure<'a>
+    ensures { (failure_status result ≡ error_status error) ⊎ (failure_status result ≡ 4) }
+{
+    let Some(name) = symbol_of(&error) else {
+        return Failure::from(error);
+    };
+    match escape(alloc, name) {
+        Ok(spelling) => Failure::Refused {
+            error,
+            symbol: Some(spelling),
+        },
+        Err(no_memory) => Failure::from(no_memory),
+    }
+}
+
+/// The failure to read a file: want of memory, or any other fault of its path.
+pub fn unread<'a>(path: CowStr<'a>, error: &io::Error) -> Failure<'a>
+    ensures { 3 ≤ failure_status result }
+{
+    match error.kind() {
+        ErrorKind::OutOfMemory => Failure::from(LinkError::Memory),
+        _ => Failure::CannotRead(path),
+    }
+}
+
+/// The failure to write a file.
+pub fn unwritten<'a>(path: &'a str, fault: WriteFault) -> Failure<'a>
+    ensures { 3 ≤ failure_status result }
+{
+    match fault {
+        WriteFault::Memory => Failure::from(LinkError::Memory),
+        WriteFault::Device => Failure::CannotWrite(path),
+    }
+}
