@@ -41,6 +41,12 @@ LAYERS = {
         "Common blocks and the linker's own names": "ArrayNames BlockNames LeftNames",
         "Output sections": "GatheringNames Leaders NamedOutputs OutputKeys OutputSteps SectionWalks",
     },
+    "debug_image": {
+        "Sections of memory": "FirstSections MappedImages MappedRows MappedRuns OwnHeaders Runs SectionSteps",
+        "Debug data": "AnySteps DataSteps FieldLawSteps FieldSteps IndexSteps JoinedSteps KeptSteps NamedUses RangeSteps"
+        " StandInSteps",
+        "Tables and the file": "LinkImages LinkTables PlainParts PlainSteps RowSteps",
+    },
     "layout": {
         "Pieces and their output sections": "Alignments ArrayNames ArraySteps GotPieces GroupSteps Leading OrderSteps PartSteps"
         " PieceEntries",

@@ -13,7 +13,8 @@ use Rattle.elf_model.specs.Inputs.ObjectFile.{sections}
 use Rattle.elf_model.specs.Link.Placement.{Placed}
 use Rattle.elf_model.specs.declared.records.Rela.{Rela}
 use Rattle.debug_image.specs.DataIndexes.{AreAll, AreIndexes, AreOffsets, AreRelas, DataIndex, IsIndex, listed_entries, offset_at, relas_in}
-use Rattle.debug_image.specs.DebugSections.{debug_offset, header_in, is_numbered, offset_in_row}
+use Rattle.debug_image.specs.DebugSections.{debug_offset, is_numbered, offset_in_row}
+use Rattle.debug_image.specs.ObjectSections.{header_in}
 use Rattle.debug_image.specs.DebugValues.{entries_at, is_rela_for}
 use Rattle.debug_image.specs.declared.data_index.DataSection.{DataSection}
 use Rattle.debug_image.proofs.RangeSteps.{flat_map_range}

@@ -12,7 +12,7 @@ use Rattle.placing.specs.Views.{piece_view, piece_views}
 use Rattle.placing.specs.declared.piece.Piece as code_piece
 use Rattle.search.specs.Views.{loaded_view, loaded_views}
 use Rattle.search.specs.declared.loaded.LoadedObject as code_object
-use Rattle.debug_image.specs.DebugSections.{AreFew, AreLow, EndsLow, HaveRoom, IsLow, Joined, debug_pieces, is_joined_of, joined_all, joined_from, joined_of, joined_with, place_in, places_from, replaced, rows_from, debug_rows, grown, named}
+use Rattle.debug_image.specs.DebugSections.{AreFew, AreLow, EndsLow, HaveRoom, IsLow, Joined, debug_pieces, is_flagged, is_joined_of, joined_all, joined_from, joined_with, pieces_unless, place_in, places_from, replaced, rows_from, grown, named}
 use Rattle.debug_image.specs.DebugViews.{joined_view, joined_views}
 use Rattle.debug_image.specs.declared.joined.Joined as code
 use Rattle.resolve.proofs.Walks.{next_loaded}
@@ -134,11 +134,11 @@ all_grow js (p ∷ ps) =
     let more = all_grow (joined_with js p) ps in
     grind (arith, one, more)
 
-from_grows : (js : List Joined) (k : ℕ) (os : List LoadedObject) → length js ≤ length (joined_from js k os)
-from_grows js k [] = grind (arith)
-from_grows js k (o ∷ os) =
-    let one = all_grow js (debug_pieces k o) in
-    let more = from_grows (joined_all js (debug_pieces k o)) (k + 1) os in
+from_grows : (flags : List Bool) (js : List Joined) (k : ℕ) (os : List LoadedObject) → length js ≤ length (joined_from flags js k os)
+from_grows flags js k [] = grind (arith)
+from_grows flags js k (o ∷ os) =
+    let one = all_grow js (debug_pieces flags k o) in
+    let more = from_grows flags (joined_all js (debug_pieces flags k o)) (k + 1) os in
     grind (arith, one, more)
 
 pub too_high : (js : List Joined) (p : Piece) → ¬ EndsLow (place_in js p) → ¬ HaveRoom js (p ∷ [])
@@ -168,32 +168,32 @@ no_room js ps k d qs first within places joined none = λ room.
 
 -- the sections of one more object
 left_rows :
-    (js : List Joined) (os : List code_object.LoadedObject) (k : ℕ) (d : code_object.LoadedObject) → k < length os → d ≡ get_or os k d →
-    rows_from js k (drop k (loaded_views os))
-    ≡ places_from js (debug_pieces k (loaded_view d)) ∷ rows_from (joined_all js (debug_pieces k (loaded_view d))) (k + 1) (drop (k + 1) (loaded_views os))
-left_rows js os k d within is = ap (λ (xs : List LoadedObject). rows_from js k xs) (next_loaded os k d within is)
+    (flags : List Bool) (js : List Joined) (os : List code_object.LoadedObject) (k : ℕ) (d : code_object.LoadedObject) → k < length os → d ≡ get_or os k d →
+    rows_from flags js k (drop k (loaded_views os))
+    ≡ places_from js (debug_pieces flags k (loaded_view d)) ∷ rows_from flags (joined_all js (debug_pieces flags k (loaded_view d))) (k + 1) (drop (k + 1) (loaded_views os))
+left_rows flags js os k d within is = ap (λ (xs : List LoadedObject). rows_from flags js k xs) (next_loaded os k d within is)
 
 pub rows_more :
-    (js new : List Joined) (os : List code_object.LoadedObject) (k : ℕ) (d : code_object.LoadedObject) (rows more all : List (List Placed)) →
-    k < length os → d ≡ get_or os k d → more ≡ rows ++ places_from js (debug_pieces k (loaded_view d)) ∷ [] →
-    new ≡ joined_all js (debug_pieces k (loaded_view d)) → rows ++ rows_from js k (drop k (loaded_views os)) ≡ all →
-    more ++ rows_from new (k + 1) (drop (k + 1) (loaded_views os)) ≡ all
-rows_more js new os k d rows more all within is is_more is_new so_far =
-    let row : List Placed = places_from js (debug_pieces k (loaded_view d)) in
+    (flags : List Bool) (js new : List Joined) (os : List code_object.LoadedObject) (k : ℕ) (d : code_object.LoadedObject) (rows more all : List (List Placed)) →
+    k < length os → d ≡ get_or os k d → more ≡ rows ++ places_from js (debug_pieces flags k (loaded_view d)) ∷ [] →
+    new ≡ joined_all js (debug_pieces flags k (loaded_view d)) → rows ++ rows_from flags js k (drop k (loaded_views os)) ≡ all →
+    more ++ rows_from flags new (k + 1) (drop (k + 1) (loaded_views os)) ≡ all
+rows_more flags js new os k d rows more all within is is_more is_new so_far =
+    let row : List Placed = places_from js (debug_pieces flags k (loaded_view d)) in
     let rest : List LoadedObject = drop (k + 1) (loaded_views os) in
-    ap (λ (xs : List (List Placed)). xs ++ rows_from new (k + 1) rest) is_more
-    ∙ ap (λ (xs : List Joined). (rows ++ row ∷ []) ++ rows_from xs (k + 1) rest) is_new
-    ∙ append_assoc rows (row ∷ []) (rows_from (joined_all js (debug_pieces k (loaded_view d))) (k + 1) rest)
-    ∙ ap (λ (xs : List (List Placed)). rows ++ xs) (sym (left_rows js os k d within is))
+    ap (λ (xs : List (List Placed)). xs ++ rows_from flags new (k + 1) rest) is_more
+    ∙ ap (λ (xs : List Joined). (rows ++ row ∷ []) ++ rows_from flags xs (k + 1) rest) is_new
+    ∙ append_assoc rows (row ∷ []) (rows_from flags (joined_all js (debug_pieces flags k (loaded_view d))) (k + 1) rest)
+    ∙ ap (λ (xs : List (List Placed)). rows ++ xs) (sym (left_rows flags js os k d within is))
     ∙ so_far
 
 pub joined_from_more :
-    (js new : List Joined) (os : List code_object.LoadedObject) (k : ℕ) (d : code_object.LoadedObject) (all : List Joined) → k < length os →
-    d ≡ get_or os k d → new ≡ joined_all js (debug_pieces k (loaded_view d)) → joined_from js k (drop k (loaded_views os)) ≡ all →
-    joined_from new (k + 1) (drop (k + 1) (loaded_views os)) ≡ all
-joined_from_more js new os k d all within is is_new so_far =
-    ap (λ (xs : List Joined). joined_from xs (k + 1) (drop (k + 1) (loaded_views os))) is_new
-    ∙ sym (ap (λ (xs : List LoadedObject). joined_from js k xs) (next_loaded os k d within is))
+    (flags : List Bool) (js new : List Joined) (os : List code_object.LoadedObject) (k : ℕ) (d : code_object.LoadedObject) (all : List Joined) → k < length os →
+    d ≡ get_or os k d → new ≡ joined_all js (debug_pieces flags k (loaded_view d)) → joined_from flags js k (drop k (loaded_views os)) ≡ all →
+    joined_from flags new (k + 1) (drop (k + 1) (loaded_views os)) ≡ all
+joined_from_more flags js new os k d all within is is_new so_far =
+    ap (λ (xs : List Joined). joined_from flags xs (k + 1) (drop (k + 1) (loaded_views os))) is_new
+    ∙ sym (ap (λ (xs : List LoadedObject). joined_from flags js k xs) (next_loaded os k d within is))
     ∙ so_far
 
 pub rows_low_more : (rows more : List (List Placed)) (row : List Placed) → more ≡ rows ++ row ∷ [] → AreLow rows → All EndsLow row → AreLow more
@@ -201,21 +201,21 @@ rows_low_more rows more row is all low =
     subst AreLow (sym is) (All-append (All EndsLow) rows (row ∷ []) all (All-cons (All EndsLow) row [] low (All-nil (All EndsLow))))
 
 pub rows_no_room :
-    (js : List Joined) (os : List code_object.LoadedObject) (k : ℕ) (d : code_object.LoadedObject) (rows : List (List Placed)) → k < length os →
-    d ≡ get_or os k d → rows ++ rows_from js k (drop k (loaded_views os)) ≡ debug_rows (loaded_views os) →
-    joined_from js k (drop k (loaded_views os)) ≡ joined_of (loaded_views os) → ¬ HaveRoom js (debug_pieces k (loaded_view d)) →
-    ¬ AreFew (debug_rows (loaded_views os)) (joined_of (loaded_views os))
-rows_no_room js os k d rows within is so_far joined none = λ few.
-    let row : List Placed = places_from js (debug_pieces k (loaded_view d)) in
-    let new : List Joined = joined_all js (debug_pieces k (loaded_view d)) in
-    let rest : List (List Placed) = rows_from new (k + 1) (drop (k + 1) (loaded_views os)) in
+    (flags : List Bool) (js : List Joined) (os : List code_object.LoadedObject) (k : ℕ) (d : code_object.LoadedObject) (rows : List (List Placed)) → k < length os →
+    d ≡ get_or os k d → rows ++ rows_from flags js k (drop k (loaded_views os)) ≡ rows_from flags [] 0 (loaded_views os) →
+    joined_from flags js k (drop k (loaded_views os)) ≡ joined_from flags [] 0 (loaded_views os) → ¬ HaveRoom js (debug_pieces flags k (loaded_view d)) →
+    ¬ AreFew (rows_from flags [] 0 (loaded_views os)) (joined_from flags [] 0 (loaded_views os))
+rows_no_room flags js os k d rows within is so_far joined none = λ few.
+    let row : List Placed = places_from js (debug_pieces flags k (loaded_view d)) in
+    let new : List Joined = joined_all js (debug_pieces flags k (loaded_view d)) in
+    let rest : List (List Placed) = rows_from flags new (k + 1) (drop (k + 1) (loaded_views os)) in
     let parts : AreLow (row ∷ rest) =
-    subst AreLow (left_rows js os k d within is)
-    ((All-parts (All EndsLow) rows (rows_from js k (drop k (loaded_views os))) (subst AreLow (sym so_far) few.low)).1) in
-    let same : length (joined_of (loaded_views os)) ≡ length (joined_from new (k + 1) (drop (k + 1) (loaded_views os))) =
-    ap (λ (xs : List Joined). length xs) (sym joined ∙ ap (λ (xs : List LoadedObject). joined_from js k xs) (next_loaded os k d within is)) in
+    subst AreLow (left_rows flags js os k d within is)
+    ((All-parts (All EndsLow) rows (rows_from flags js k (drop k (loaded_views os))) (subst AreLow (sym so_far) few.low)).1) in
+    let same : length (joined_from flags [] 0 (loaded_views os)) ≡ length (joined_from flags new (k + 1) (drop (k + 1) (loaded_views os))) =
+    ap (λ (xs : List Joined). length xs) (sym joined ∙ ap (λ (xs : List LoadedObject). joined_from flags js k xs) (next_loaded os k d within is)) in
     let count = few.few in
-    let more = from_grows new (k + 1) (drop (k + 1) (loaded_views os)) in
+    let more = from_grows flags new (k + 1) (drop (k + 1) (loaded_views os)) in
     none (record { low = All-head (All EndsLow) row rest parts; few = grind (arith, count, same, more) })
 
 -- the first objects and the next one
@@ -226,3 +226,7 @@ views_more os k d within is =
     ap loaded_views (take_more os k d within)
     ∙ map-append loaded_view (take k os) (get_or os k d ∷ [])
     ∙ ap (λ (x : code_object.LoadedObject). loaded_views (take k os) ++ loaded_view x ∷ []) (sym is)
+
+-- what goes into the image of an object, by its flag
+pub by_flag : (flags : List Bool) (left : Bool) (k : ℕ) (o : LoadedObject) → left ≡ is_flagged flags k → pieces_unless left k o ≡ debug_pieces flags k o
+by_flag flags left k o is = ap (λ (b : Bool). pieces_unless b k o) is

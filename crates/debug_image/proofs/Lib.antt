@@ -1,8 +1,11 @@
 pub mod PlainParts
 pub mod SectionSteps
+pub mod Runs
+pub mod MappedRuns
+pub mod MappedImages
+pub mod MappedRows
 pub mod FirstSections
 pub mod IndexSteps
-pub mod UsedSymbols
 pub mod RowSteps
 pub mod OwnHeaders
 pub mod LinkImages
@@ -12,3 +15,8 @@ pub mod RangeSteps
 pub mod FieldSteps
 pub mod JoinedSteps
 pub mod DataSteps
+pub mod KeptSteps
+pub mod StandInSteps
+pub mod AnySteps
+pub mod NamedUses
+pub mod FieldLawSteps

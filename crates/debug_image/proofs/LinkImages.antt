@@ -19,8 +19,13 @@ use Rattle.own_link.proofs.ImageOwn.{IsRoomFor, own_suits}
 use Rattle.resolve.specs.Views.{meaning_views}
 use Rattle.debug_image.specs.PlainImages.{plain_of, with_sections}
 use Rattle.elf_model.proofs.Running.{rounded_up}
-use Rattle.debug_image.specs.DebugImage.{front_of}
-use Rattle.debug_image.specs.Tables.{IsSmall, Tables, fields_of, headers_at, shstrtab_end}
+use Rattle.debug_image.specs.DebugImage.{chunks_in, data_end_in, data_in, debug_file, front_of, headers_in, joined_in, sections_in, tables_in}
+use Rattle.debug_image.specs.DebugValues.{all_bytes}
+use Rattle.debug_image.specs.MappedSections.{AreMapped, in_memory}
+use Rattle.debug_image.specs.Tables.{IsSmall, Tables, fields_of, headers_at, shstrtab_end, tail}
+use Rattle.debug_image.specs.declared.debug_file.Wanted.{Wanted}
+use Rattle.debug_image.proofs.MappedImages.{own_alloc, own_headers, own_mapped}
+use Rattle.debug_image.proofs.MappedRows.{mapped_rows}
 use Rattle.debug_image.proofs.OwnHeaders as own
 use Rattle.own_link.proofs.ImageRead.{FitFields}
 
@@ -118,3 +123,24 @@ module _ (l : Linked) (x : Parts) (made : AreParts (loaded_of l) x) (listed : me
       ∙ (own.plain_is_own base objects made.kinds made.base made.not_too_large made.objects f rest (new_fits t x small low)
       ∙ (ap (λ (xs : List ℕ). header_bytes base objects (fields_without entry) ++ xs) (sym (append-nil bytes))
       ∙ ap (λ (b : Bool). image_file base objects entry (table_of b objects l.listed)) (sym strip)))
+
+  -- its section headers tell what memory has, whatever stands behind it
+  front_mapped :
+      (t : Tables) (x : ℕ) (rest : List ℕ) → IsSmall t → x ≤ 2 ^ 58 →
+      AreMapped (front_of l t x ++ rest) (own_headers base objects made.kinds made.base made.not_too_large made.objects)
+  front_mapped t x rest small low =
+      let f : HeaderFields = fields_of entry x t in
+      let bytes : List ℕ =
+      map (λ i. own_byte base objects (base + i)) (range_with_len (own_headers_size objects) (own_end base objects - own_headers_size objects)) in
+      subst (λ (xs : List ℕ). AreMapped xs (own_headers base objects made.kinds made.base made.not_too_large made.objects))
+      (sym (append_assoc (header_bytes base objects f) bytes rest))
+      (own_mapped base objects made.kinds made.base made.not_too_large made.objects f rest (new_fits t x small low))
+
+  pub file_mapped : (w : Wanted) (ms : List Meaning) → IsSmall (tables_in w l ms) → data_end_in w l ≤ 2 ^ 58 → AreMapped (debug_file w l ms) (in_memory (headers_in w l ms))
+  file_mapped w ms small low =
+      let t : Tables = tables_in w l ms in
+      let x : ℕ = data_end_in w l in
+      subst (AreMapped (debug_file w l ms))
+      (sym (mapped_rows base (length objects) (own_end base objects) x (sections_in base objects) (joined_in w objects) t refl
+      (own_alloc base objects made.kinds made.base made.not_too_large made.objects)))
+      (front_mapped t x (all_bytes (data_in w l) (chunks_in w l) ++ tail x t) small low)

@@ -1,28 +1,26 @@
 -- The own image with other fields of its file header, and other bytes behind its last file part.
-use Rattle.std.proofs.Common.{◌≡◌, inl, Bool, false, ℕ, ◌+◌, ◌-◌, ◌*◌, ◌^◌, ◌<◌, ◌≤◌, true, cond, List, ◌++◌, length, map, refl, sym, ◌∙◌, ap, arith, append_assoc, drop, take}
-use Rattle.std.specs.Prelude.{Contains, nat_le}
-use Rattle.std.specs.List.{flat_map, list_any, range_with_len}
+use Rattle.std.proofs.Common.{◌≡◌, inl, Bool, ℕ, ◌+◌, ◌-◌, ◌*◌, ◌≤◌, true, cond, List, ◌++◌, length, map, refl, sym, ◌∙◌, ap, arith, append_assoc, drop, take}
+use Rattle.std.specs.Prelude.{filter, nat_le}
+use Rattle.std.specs.List.{flat_map, range_with_len}
 use Rattle.std.proofs.Math.Seq.{drop-append-add}
 use Rattle.std.proofs.lemmas.Bool.{le-leb}
 use Rattle.std.proofs.lemmas.List.{length-append}
-use Rattle.std.proofs.lemmas.List.Elements.{Contains-append_left}
 use Rattle.std.proofs.lemmas.List.FromFn.{length-map-range_with_len}
 use Rattle.byteview.specs.Numbers.{part}
 use Rattle.elf_model.specs.Inputs.Command.{IsBase}
-use Rattle.elf_model.specs.Own.ImageFile.{HeaderFields, fields_without, header_bytes, own_byte, own_end, own_file_header, own_program_headers, piece_byte}
+use Rattle.elf_model.specs.Own.ImageFile.{HeaderFields, fields_without, header_bytes, own_byte, own_end, own_file_header, own_program_headers}
 use Rattle.elf_model.specs.Link.Loading.{AreObjects, LoadedObject}
-use Rattle.elf_model.specs.Image.MemoryImage.{file_end, headers_size, loads, loads_in, program_headers}
-use Rattle.elf_model.specs.Own.OwnLayout.{IsNotTooLarge, code_pieces, count_if, data_pieces, has_thread_pieces, header_count, is_nonempty, own_headers_size, own_loaded, own_segments, own_thread_rest, own_where, placed_has_bytes}
+use Rattle.elf_model.specs.Image.MemoryImage.{file_end, headers_size, is_thread_block, loads, loads_in, program_headers, thread_blocks}
+use Rattle.elf_model.specs.Own.OwnLayout.{IsNotTooLarge, header_count, own_headers_size, own_segments}
 use Rattle.elf_model.specs.Link.Pieces.{AreLawfulKinds}
-use Rattle.elf_model.specs.Link.Placement.{Placed}
-use Rattle.elf_model.specs.Inputs.Records.{FitsFileHeader, file_header, file_header_bytes, program_header, program_header_bytes}
+use Rattle.elf_model.specs.Inputs.Records.{file_header, file_header_bytes, program_header, program_header_bytes}
 use Rattle.elf_model.specs.declared.records.FileHeader.{FileHeader}
 use Rattle.elf_model.specs.declared.records.ProgramHeader.{ProgramHeader}
 use Rattle.elf_model.proofs.Places.{AreOwnPlaced, are_own_placed}
 use Rattle.elf_model.proofs.RecordLaws.{file_header-again, length-file_header_bytes}
 use Rattle.own_link.proofs.HeaderTable.{length-headers}
-use Rattle.own_link.proofs.ImageOwn.{few_headers, good_segments, header_count_is, own_thread_headers_of, wanted_loads}
-use Rattle.own_link.proofs.ImageRead.{FitFields, file_end-long, fits_header}
+use Rattle.own_link.proofs.ImageOwn.{few_headers, good_segments, header_count_is, own_thread_headers_of, wanted_loads, wanted_thread_blocks}
+use Rattle.own_link.proofs.ImageRead.{FitFields, SuitsFile, file_end-long, fits_header}
 use Rattle.own_link.proofs.ZeroFilled.{loaded_wants_zero, own_wants}
 use Rattle.debug_image.specs.PlainImages.{cleared, plain_of}
 use Rattle.debug_image.proofs.PlainParts.{plain_is}
@@ -87,28 +85,36 @@ module _ (base : ℕ) (objects : List LoadedObject) (kinds : AreLawfulKinds obje
       ap file_header (append_assoc (front f) programs (body ++ tail))
       ∙ file_header-again (own_file_header f (header_count objects)) (programs ++ (body ++ tail)) (fits_header f (header_count objects) s (few_headers objects))
 
-  -- the segments of such an image
-  bare : (tail : List ℕ) → loads (image_with (fields_without 0) tail) ≡ own_segments base objects
-  bare tail =
-      wanted_loads base objects kinds based fits stand good (own_wants base objects) (loaded_wants_zero objects good base stand) (fields_without 0) tail
-      (record {
-        fit = record { entry = omega arith; offset = omega arith; count = omega arith; names = omega arith };
-        sections = inl (record { offset = refl; count = refl; names = refl });
-      })
+  -- the program headers of such an image are those of one without section headers
+  bare_suits : (tail : List ℕ) → SuitsFile (fields_without 0) (own_end base objects + length tail)
+  bare_suits tail = record {
+    fit = record { entry = omega arith; offset = omega arith; count = omega arith; names = omega arith };
+    sections = inl (record { offset = refl; count = refl; names = refl });
+  }
 
-  pub loads_read : (f : HeaderFields) (tail : List ℕ) → FitFields f → loads (image_with f tail) ≡ own_segments base objects
-  loads_read f tail s =
+  headers_as_bare : (f : HeaderFields) (tail : List ℕ) → FitFields f → program_headers (image_with f tail) ≡ program_headers (image_with (fields_without 0) tail)
+  headers_as_bare f tail s =
       let g = fields_without 0 in
       let rest : List ℕ = programs ++ (body ++ tail) in
-      let bare_fits : FitFields g = record { entry = omega arith; offset = omega arith; count = omega arith; names = omega arith } in
       let same : (file_header (front f ++ rest)).e_phnum ≡ (file_header (front g ++ rest)).e_phnum =
       ap (λ (xs : List ℕ). (file_header xs).e_phnum) (sym (append_assoc (front f) programs (body ++ tail)))
       ∙ (ap (λ (h : FileHeader). h.e_phnum) (header_read f tail s)
-      ∙ (sym (ap (λ (h : FileHeader). h.e_phnum) (header_read g tail bare_fits))
+      ∙ (sym (ap (λ (h : FileHeader). h.e_phnum) (header_read g tail (bare_suits tail).fit))
       ∙ ap (λ (xs : List ℕ). (file_header xs).e_phnum) (append_assoc (front g) programs (body ++ tail)))) in
-      ap loads (append_assoc (front f) programs (body ++ tail))
-      ∙ (ap loads_in (table_behind (front f) (front g) rest (front_long f) (front_long g) same)
-      ∙ (ap loads (sym (append_assoc (front g) programs (body ++ tail))) ∙ bare tail))
+      ap program_headers (append_assoc (front f) programs (body ++ tail))
+      ∙ (table_behind (front f) (front g) rest (front_long f) (front_long g) same
+      ∙ ap program_headers (sym (append_assoc (front g) programs (body ++ tail))))
+
+  -- its segments, and its block of thread-local storage
+  pub loads_read : (f : HeaderFields) (tail : List ℕ) → FitFields f → loads (image_with f tail) ≡ own_segments base objects
+  loads_read f tail s =
+      ap loads_in (headers_as_bare f tail s)
+      ∙ wanted_loads base objects kinds based fits stand good (own_wants base objects) (loaded_wants_zero objects good base stand) (fields_without 0) tail (bare_suits tail)
+
+  pub blocks_read : (f : HeaderFields) (tail : List ℕ) → FitFields f → thread_blocks (image_with f tail) ≡ own_thread_headers_of base objects
+  blocks_read f tail s =
+      ap (λ (hs : List ProgramHeader). filter is_thread_block hs) (headers_as_bare f tail s)
+      ∙ wanted_thread_blocks base objects kinds based fits stand good (own_wants base objects) (loaded_wants_zero objects good base stand) (fields_without 0) tail (bare_suits tail)
 
   -- its file header is read as a whole
   headers_inside : (f : HeaderFields) (tail : List ℕ) → FitFields f → headers_size (image_with f tail) ≤ length (image_with f tail)

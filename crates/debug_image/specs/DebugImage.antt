@@ -5,14 +5,17 @@ use Rattle.elf_model.specs.Link.Loading.{LoadedObject}
 use Rattle.elf_model.specs.Link.Meaning.{Meaning}
 use Rattle.elf_model.specs.Own.OwnLayout.{own_placed}
 use Rattle.elf_model.specs.Link.Placement.{Placed}
+use Rattle.elf_model.specs.declared.records.SectionHeader.{SectionHeader}
 use Rattle.image_write.specs.Linkages.{Linked}
 use Rattle.image_write.specs.Parts.{file_parts}
 use Rattle.debug_image.specs.DebugSections.{AreFew, Chunk, Joined, chunks_of, data_end, debug_rows, joined_of, joined_rows}
 use Rattle.debug_image.specs.DebugValues.{Data, all_bytes}
+use Rattle.debug_image.specs.Reports.{left_data, none_left}
 use Rattle.debug_image.specs.Sections.{Section, section_rows, sections_of}
 use Rattle.debug_image.specs.Symbols.{Laid, local_rows, meaning_rows}
-use Rattle.debug_image.specs.Tables.{IsSmall, Row, Tables, fields_of, strtab, symtab, tail, titles}
+use Rattle.debug_image.specs.Tables.{IsSmall, Row, Tables, fields_of, header_rows, row_headers, strtab, symtab, tail, titles}
 use Rattle.debug_image.specs.declared.debug_file.Wanted.{Wanted}
+use Rattle.debug_image.specs.declared.reports.LeftData.{LeftData}
 
 -- the sections of an image, and where its link is laid out
 abbrev pub sections_in : ℕ → List LoadedObject → List Section
@@ -35,10 +38,14 @@ rows_in w objects = cond w.debug (debug_rows objects) []
 abbrev pub joined_in : Wanted → List LoadedObject → List Joined
 joined_in w objects = cond w.debug (joined_of objects) []
 
+-- what is left out of them
+abbrev pub left_in : Wanted → List LoadedObject → LeftData
+left_in w objects = cond w.debug (left_data objects) none_left
+
 -- its tables: those of sections and of symbols, of which so many are LOCAL, with that of number 0
 abbrev pub tables_from : ℕ → ℕ → ℕ → List Section → List Joined → List Row → ℕ → Tables
 tables_from base end count ss js rows locals =
-    let sections = section_rows base end count ss ++ joined_rows end js in record {
+    let sections = section_rows base count ss ++ joined_rows end js in record {
       symbols = symtab rows;
       names = strtab rows;
       titles = titles sections;
@@ -74,6 +81,10 @@ data_end_in w l = data_end (end_in l) (joined_in w l.objects)
 
 abbrev pub front_of : Linked → Tables → ℕ → List ℕ
 front_of l t x = file_parts l.plan.base l.objects (fields_of (own_entry l.plan.base l.objects l.plan.entry) x t)
+
+-- the headers of its sections, but for that of number 0
+abbrev pub headers_in : Wanted → Linked → List Meaning → List SectionHeader
+headers_in w l ms = row_headers (header_rows (data_end_in w l) (tables_in w l ms))
 
 abbrev pub debug_file : Wanted → Linked → List Meaning → List ℕ
 debug_file w l ms =

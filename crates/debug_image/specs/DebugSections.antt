@@ -1,15 +1,18 @@
 -- Debug data (System V gABI 4, "Sections"; which sections hold them, and how these are joined, is the profile's): the sections of
 -- objects that hold them, joined by their names.
-use Rattle.std.specs.Prelude.{◌≤◌, ℕ, ◌+◌, ◌-◌, ◌^◌, ◌==◌, ◌&&◌, Bool, not, cond, All, List, [], ◌∷◌, ◌++◌, Option, None, Some, codes, find, length, max, nat_eq, nat_le, option_map, unwrap_or}
-use Rattle.std.specs.List.{filter_map, range_with_len, slice_get, starts_with}
-use Rattle.std.specs.Option.{option_and_then}
+use Rattle.std.specs.Prelude.{◌≤◌, ℕ, ◌+◌, ◌-◌, ◌^◌, ◌==◌, ◌&&◌, ◌||◌, Bool, false, not, cond, All, List, [], ◌∷◌, ◌++◌, Option, None, Some, codes, find, length, max, nat_eq, nat_le, option_map, unwrap_or}
+use Rattle.std.specs.List.{ends_with, filter_map, list_any, slice_get, starts_with}
+use Rattle.std.specs.Option.{option_and_then, option_map_or}
 use Rattle.std.specs.Str.{bytes_eq}
+use Rattle.elf_model.specs.Inputs.ObjectFile.{Group, groups}
+use Rattle.elf_model.specs.Link.Groups.{is_comdat}
 use Rattle.elf_model.specs.Link.Loading.{LoadedObject, is_dropped}
-use Rattle.elf_model.specs.Inputs.ObjectFile.{section, section_name, sections}
 use Rattle.elf_model.specs.Link.Pieces.{Piece, has_flag, is_alloc}
 use Rattle.elf_model.specs.Link.Placement.{Placed, round_up}
 use Rattle.elf_model.specs.declared.constants.TheConstants.{SHT_PROGBITS}
 use Rattle.elf_model.specs.declared.records.SectionHeader.{SectionHeader}
+use Rattle.debug_image.specs.KeptGroups.{kept_group}
+use Rattle.debug_image.specs.ObjectSections.{header_in, name_in, numbers}
 use Rattle.debug_image.specs.Symbols.{piece_in}
 use Rattle.debug_image.specs.Tables.{HeaderRow}
 
@@ -20,40 +23,75 @@ compressed_flag = 0x800
 abbrev pub exclude_flag : ℕ
 exclude_flag = 0x80000000
 
--- the header and the name of a section of an object
-abbrev pub header_in : LoadedObject → ℕ → SectionHeader
-header_in o i = section (sections o.bytes) i
+-- names of debug data: they begin with .debug_, or with .zdebug_, which is how data were compressed before there was a flag; those that
+-- end with .dwo are of a file of its own (DWARF 5, 7.3.5, "Split DWARF Object Files"), and so of no image
+abbrev pub is_old_name : List ℕ → Bool
+is_old_name name = starts_with nat_eq name (codes ".zdebug_")
 
-abbrev pub name_in : LoadedObject → ℕ → List ℕ
-name_in o i = unwrap_or (section_name o.bytes i) []
+abbrev pub is_split_name : List ℕ → Bool
+is_split_name name = ends_with nat_eq name (codes ".dwo")
 
 abbrev pub is_debug_name : List ℕ → Bool
-is_debug_name name = starts_with nat_eq name (codes ".debug_")
+is_debug_name name = (starts_with nat_eq name (codes ".debug_") || is_old_name name) && not (is_split_name name)
 
--- a section of an object holds debug data: it has bytes, no flag ALLOC nor EXCLUDE, and a name that begins with .debug_, and it isn't
--- dropped with its group
-abbrev pub has_debug_header : SectionHeader → Bool
-has_debug_header h = (h.sh_type == SHT_PROGBITS) && (not (is_alloc h) && not (has_flag exclude_flag h))
+-- a section of an object is of debug data: it is no part of memory, and has such a name; it holds them where it isn't dropped with
+-- its group
+abbrev pub is_debug_section : LoadedObject → ℕ → Bool
+is_debug_section o i = not (is_alloc (header_in o i)) && is_debug_name (name_in o i)
 
 abbrev pub holds_debug_data : LoadedObject → ℕ → Bool
-holds_debug_data o i = has_debug_header (header_in o i) && (not (is_dropped o i) && is_debug_name (name_in o i))
+holds_debug_data o i = is_debug_section o i && not (is_dropped o i)
 
--- it goes into the image where the data aren't compressed
-abbrev pub is_joined : LoadedObject → ℕ → Bool
-is_joined o i = holds_debug_data o i && not (has_flag compressed_flag (header_in o i))
-
+-- they are compressed; they can be joined with those of other objects: these are bytes as they are, which an image may take
 abbrev pub is_compressed : LoadedObject → ℕ → Bool
-is_compressed o i = holds_debug_data o i && has_flag compressed_flag (header_in o i)
+is_compressed o i = has_flag compressed_flag (header_in o i) || is_old_name (name_in o i)
 
--- those of one object that go into the image
-abbrev pub numbers : LoadedObject → List ℕ
-numbers o = range_with_len 0 (length (sections o.bytes))
+abbrev pub is_joinable : LoadedObject → ℕ → Bool
+is_joinable o i = ((header_in o i).sh_type == SHT_PROGBITS) && (not (has_flag exclude_flag (header_in o i)) && not (is_compressed o i))
 
+abbrev pub is_unjoinable : LoadedObject → ℕ → Bool
+is_unjoinable o i = holds_debug_data o i && not (is_joinable o i)
+
+abbrev pub has_unjoinable : LoadedObject → Bool
+has_unjoinable o = list_any (is_unjoinable o) (numbers o)
+
+-- An object is left out as a whole: its sections refer to one another, so that some of them without the others would be read as those of
+-- another object. It is left out where one of its sections can't be joined, or where sections of debug data are dropped with a group whose
+-- kept one is in an object that is left out; the kept one comes first in load order, so flags for the objects before say so.
+abbrev pub is_lost : LoadedObject → ℕ → Bool
+is_lost o n = is_dropped o n && is_debug_section o n
+
+abbrev pub loses_debug_data : LoadedObject → Group → Bool
+loses_debug_data o g = is_comdat g && list_any (is_lost o) g.members
+
+abbrev pub is_flagged : List Bool → ℕ → Bool
+is_flagged flags k = unwrap_or (slice_get flags k) false
+
+abbrev pub is_kept_left : List LoadedObject → List Bool → Group → Bool
+is_kept_left objects flags g = option_map_or (λ h. is_flagged flags h.object) (kept_group objects g.signature) false
+
+abbrev pub relies_on_left : List LoadedObject → List Bool → LoadedObject → Group → Bool
+relies_on_left objects flags o g = loses_debug_data o g && is_kept_left objects flags g
+
+abbrev pub is_left_out : List LoadedObject → List Bool → LoadedObject → Bool
+is_left_out objects flags o = has_unjoinable o || list_any (relies_on_left objects flags o) (groups o.bytes)
+
+abbrev pub flags_from : List LoadedObject → List Bool → List LoadedObject → List Bool
+flags_from objects flags [] = flags
+flags_from objects flags (o ∷ os) = flags_from objects (flags ++ is_left_out objects flags o ∷ []) os
+
+abbrev pub left_flags : List LoadedObject → List Bool
+left_flags objects = flags_from objects [] objects
+
+-- the sections of one object that go into the image
 abbrev pub debug_piece : ℕ → LoadedObject → ℕ → Option Piece
-debug_piece k o i = cond (is_joined o i) (Some (piece_in k i o)) None
+debug_piece k o i = cond (holds_debug_data o i) (Some (piece_in k i o)) None
 
-abbrev pub debug_pieces : ℕ → LoadedObject → List Piece
-debug_pieces k o = filter_map (debug_piece k o) (numbers o)
+abbrev pub pieces_unless : Bool → ℕ → LoadedObject → List Piece
+pieces_unless left k o = cond left [] (filter_map (debug_piece k o) (numbers o))
+
+abbrev pub debug_pieces : List Bool → ℕ → LoadedObject → List Piece
+debug_pieces flags k o = pieces_unless (is_flagged flags k) k o
 
 -- its alignment; one of more than 2 ^ 21 counts as 1
 abbrev pub alignment : Piece → ℕ
@@ -106,19 +144,20 @@ places_from js [] = []
 places_from js (p ∷ ps) = place_in js p ∷ places_from (joined_with js p) ps
 
 -- those of each object, in load order
-abbrev pub rows_from : List Joined → ℕ → List LoadedObject → List (List Placed)
-rows_from js k [] = []
-rows_from js k (o ∷ os) = places_from js (debug_pieces k o) ∷ rows_from (joined_all js (debug_pieces k o)) (k + 1) os
+abbrev pub rows_from : List Bool → List Joined → ℕ → List LoadedObject → List (List Placed)
+rows_from flags js k [] = []
+rows_from flags js k (o ∷ os) =
+    places_from js (debug_pieces flags k o) ∷ rows_from flags (joined_all js (debug_pieces flags k o)) (k + 1) os
 
-abbrev pub joined_from : List Joined → ℕ → List LoadedObject → List Joined
-joined_from js k [] = js
-joined_from js k (o ∷ os) = joined_from (joined_all js (debug_pieces k o)) (k + 1) os
+abbrev pub joined_from : List Bool → List Joined → ℕ → List LoadedObject → List Joined
+joined_from flags js k [] = js
+joined_from flags js k (o ∷ os) = joined_from flags (joined_all js (debug_pieces flags k o)) (k + 1) os
 
 abbrev pub debug_rows : List LoadedObject → List (List Placed)
-debug_rows objects = rows_from [] 0 objects
+debug_rows objects = rows_from (left_flags objects) [] 0 objects
 
 abbrev pub joined_of : List LoadedObject → List Joined
-joined_of objects = joined_from [] 0 objects
+joined_of objects = joined_from (left_flags objects) [] 0 objects
 
 -- the offset of a section of an object, by their numbers
 abbrev pub is_numbered : ℕ → Placed → Bool
@@ -166,19 +205,26 @@ abbrev pub data_end : ℕ → List Joined → ℕ
 data_end y [] = y
 data_end y (j ∷ js) = data_end (start_of y j + j.end) js
 
--- their headers: without flags and without an address
+-- their headers: without an address, and without flags, but that the tables of strings are such, of entries of one byte, so that tools may
+-- merge them (System V gABI 4, "Section Attribute Flags")
+abbrev pub string_flags : ℕ
+string_flags = 0x30
+
+abbrev pub holds_strings : Joined → Bool
+holds_strings j = bytes_eq j.title (codes ".debug_str") || bytes_eq j.title (codes ".debug_line_str")
+
 abbrev pub joined_header : ℕ → Joined → SectionHeader
 joined_header start j = record {
   sh_name = 0;
   sh_type = SHT_PROGBITS;
-  sh_flags = 0;
+  sh_flags = cond (holds_strings j) string_flags 0;
   sh_addr = 0;
   sh_offset = start;
   sh_size = j.end;
   sh_link = 0;
   sh_info = 0;
   sh_addralign = j.align;
-  sh_entsize = 0;
+  sh_entsize = cond (holds_strings j) 1 0;
 }
 
 abbrev pub row_of : ℕ → Joined → HeaderRow

@@ -29,4 +29,4 @@ abbrev pub chunk_views : List Chunk → List sections.Chunk
 chunk_views cs = map chunk_view cs
 
 abbrev pub field_view : Field → values.Field
-field_view f = record { at = f.at; width = f.width; value = f.value }
+field_view f = record { at = f.at; width = f.width; value = f.value; done = f.done }

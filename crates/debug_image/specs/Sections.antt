@@ -1,6 +1,7 @@
 -- The output sections of an image (System V gABI 4, "Sections"; which pieces make one is the profile's): runs of neighbours
--- among the places that are of one output section. The common blocks make a section of their own, and so does the GOT.
-use Rattle.std.specs.Prelude.{ℕ, ◌-◌, ◌==◌, ◌&&◌, Bool, cond, List, [], ◌∷◌, Option, bit_and, codes, map, max, nat_le, nat_lt, ◌%◌, min}
+-- among the places that are of one output section, but for those of which all pieces are empty. The common blocks make a
+-- section of their own, and so does the GOT.
+use Rattle.std.specs.Prelude.{ℕ, ◌-◌, ◌==◌, ◌&&◌, Bool, cond, List, [], ◌∷◌, Option, bit_and, codes, filter, map, max, nat_le, nat_lt, ◌%◌}
 use Rattle.std.specs.List.{position_from}
 use Rattle.std.specs.Str.{bytes_eq}
 use Rattle.elf_model.specs.Own.OwnLayout.{placed_end}
@@ -9,7 +10,8 @@ use Rattle.elf_model.specs.Link.Placement.{Placed}
 use Rattle.elf_model.specs.declared.records.SectionHeader.{SectionHeader}
 use Rattle.debug_image.specs.Tables.{HeaderRow}
 
--- an output section: its first piece, the end of its last one, and the greatest alignment of them
+-- an output section: its first piece, the end of the last one that isn't empty, and the greatest alignment of all; where all
+-- are empty, it ends where it begins
 pub record Section : Type 0 where
   pub first : Placed
   pub end : ℕ
@@ -28,21 +30,35 @@ abbrev pub same_section : ℕ → Piece → Piece → Bool
 same_section count p q =
     are_alike p.header q.header && same_bool (nat_le count p.object) (nat_le count q.object) && bytes_eq (output_name p.name) (output_name q.name)
 
+-- an empty piece moves no end
+abbrev pub end_with : ℕ → Placed → ℕ
+end_with end q = cond (q.piece.size == 0) end (max end (placed_end q))
+
 abbrev pub begun : Placed → Section
 begun q = record { first = q; end = placed_end q; align = q.piece.align }
 
 abbrev pub grown : Section → Placed → Section
-grown s q = record { first = s.first; end = max s.end (placed_end q); align = max s.align q.piece.align }
+grown s q = record { first = s.first; end = end_with s.end q; align = max s.align q.piece.align }
 
 -- the section to which the next pieces belong as long as they are of it, and those behind it
+abbrev pub runs_from : ℕ → Section → List Placed → List Section
+runs_from count s [] = s ∷ []
+runs_from count s (q ∷ qs) =
+    cond (same_section count s.first.piece q.piece) (runs_from count (grown s q) qs) (s ∷ runs_from count (begun q) qs)
+
+abbrev pub runs_of : ℕ → List Placed → List Section
+runs_of count [] = []
+runs_of count (q ∷ qs) = runs_from count (begun q) qs
+
+-- one that has an address: an empty one has no byte in memory, and so no header
+abbrev pub has_memory : Section → Bool
+has_memory s = nat_lt s.first.at s.end
+
 abbrev pub sections_from : ℕ → Section → List Placed → List Section
-sections_from count s [] = s ∷ []
-sections_from count s (q ∷ qs) =
-    cond (same_section count s.first.piece q.piece) (sections_from count (grown s q) qs) (s ∷ sections_from count (begun q) qs)
+sections_from count s qs = filter has_memory (runs_from count s qs)
 
 abbrev pub sections_of : ℕ → List Placed → List Section
-sections_of count [] = []
-sections_of count (q ∷ qs) = sections_from count (begun q) qs
+sections_of count qs = filter has_memory (runs_of count qs)
 
 -- the first section that a piece is of
 abbrev pub section_number : ℕ → List Section → Piece → Option ℕ
@@ -61,19 +77,15 @@ title_of count p =
 abbrev pub alignment_of : Section → ℕ
 alignment_of s = cond (nat_lt 0 s.align && (s.first.at % s.align == 0)) s.align s.first.piece.align
 
--- its offset in a file whose last file part has an end: that of its address, which may be past the end only without bytes in the file
-abbrev pub offset_of : ℕ → ℕ → Section → ℕ
-offset_of base end s = cond (is_nobits s.first.piece.header) (s.first.at - base) (min (s.first.at - base) end)
-
--- its header, in an image that is mapped from a base on and whose last file part has an end: of the type of its first piece, with its
--- address, its offset in the file and its size; of the flags WRITE, ALLOC, EXECINSTR and TLS
-abbrev pub header_of : ℕ → ℕ → Section → SectionHeader
-header_of base end s = record {
+-- its header, in an image that is mapped from a base on: of the type of its first piece, with its address, as far behind the
+-- base as in the file, and its size; of the flags WRITE, ALLOC, EXECINSTR and TLS
+abbrev pub header_of : ℕ → Section → SectionHeader
+header_of base s = record {
   sh_name = 0;
   sh_type = s.first.piece.header.sh_type;
   sh_flags = bit_and s.first.piece.header.sh_flags 0x407;
   sh_addr = s.first.at;
-  sh_offset = offset_of base end s;
+  sh_offset = s.first.at - base;
   sh_size = s.end - s.first.at;
   sh_link = 0;
   sh_info = 0;
@@ -82,8 +94,8 @@ header_of base end s = record {
 }
 
 -- the sections with their names
-abbrev pub section_row : ℕ → ℕ → ℕ → Section → HeaderRow
-section_row base end count s = record { title = title_of count s.first.piece; header = header_of base end s }
+abbrev pub section_row : ℕ → ℕ → Section → HeaderRow
+section_row base count s = record { title = title_of count s.first.piece; header = header_of base s }
 
-abbrev pub section_rows : ℕ → ℕ → ℕ → List Section → List HeaderRow
-section_rows base end count ss = map (section_row base end count) ss
+abbrev pub section_rows : ℕ → ℕ → List Section → List HeaderRow
+section_rows base count ss = map (section_row base count) ss

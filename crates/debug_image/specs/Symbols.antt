@@ -45,22 +45,27 @@ symbol_piece objects s = option_map (piece_in s.object s.entry.st_shndx) (slice_
 abbrev pub value_at : Laid → Piece → ℕ → ℕ → ℕ
 value_at l p at offset = cond (is_thread_local p.header) ((at + offset) % 2 ^ 64 - thread_start l) ((at + offset) % 2 ^ 64)
 
--- the symbol of a section of the image, numbered from 1 on
-abbrev pub placed_row : List ℕ → entry.Symbol → ℕ → ℕ → Row
+-- the number of a section among the section headers, where that of the first one is 1; an empty section has no header, and
+-- what is in it is absolute
+abbrev pub index_of : Option ℕ → ℕ
+index_of None = SHN_ABS
+index_of (Some k) = (k + 1) % 2 ^ 16
+
+-- the symbol of a section of the image
+abbrev pub placed_row : List ℕ → entry.Symbol → Option ℕ → ℕ → Row
 placed_row name e number value = record {
   name = name;
   entry =
-      record { st_name = 0; st_info = e.st_info; st_other = e.st_other; st_shndx = (number + 1) % 2 ^ 16; st_value = value; st_size = e.st_size };
+      record { st_name = 0; st_info = e.st_info; st_other = e.st_other; st_shndx = index_of number; st_value = value; st_size = e.st_size };
 }
 
 -- what a symbol of an object becomes: an absolute one stays what it is; one in a kept section is of the section of the image to which
 -- that belongs; any other one isn't there
-abbrev pub row_in : Laid → SymbolOf → ℕ → Piece → Option Row
-row_in l s at p =
-    option_map (λ k. placed_row s.name s.entry k (value_at l p at s.entry.st_value)) (section_number (length l.objects) l.sections p)
+abbrev pub row_in : Laid → SymbolOf → ℕ → Piece → Row
+row_in l s at p = placed_row s.name s.entry (section_number (length l.objects) l.sections p) (value_at l p at s.entry.st_value)
 
 abbrev pub row_at : Laid → SymbolOf → ℕ → Option Row
-row_at l s at = option_and_then (row_in l s at) (symbol_piece l.objects s)
+row_at l s at = option_map (row_in l s at) (symbol_piece l.objects s)
 
 abbrev pub absolute_row : List ℕ → entry.Symbol → Row
 absolute_row name e = record { name = name; entry = record e { st_name = 0 } }
@@ -84,14 +89,13 @@ local_row l s = cond (is_wanted s) (symbol_row l s) None
 abbrev pub local_rows : Laid → List Row
 local_rows l = filter_map (local_row l) (all_symbols l.objects)
 
--- what a name means: a symbol as its object says it; a common block is an OBJECT of its own section; a name of the linker is absolute
+-- what a name means: a symbol as its object says it, but for a LOCAL one, which no name outside its object means; a common block is an OBJECT of its own section; a name of the linker is absolute
 abbrev pub block_entry : Block → entry.Symbol
 block_entry b = record { st_name = 0; st_info = STB_GLOBAL * 16 + STT_OBJECT; st_other = 0; st_shndx = 0; st_value = 0; st_size = b.size }
 
 abbrev pub block_row : Laid → Block → Option Row
 block_row l b =
-    option_and_then (λ at. option_map (λ k. placed_row b.name (block_entry b) k at) (blocks_number (length l.objects) l.sections))
-    (address_of l b.object b.number)
+    option_map (placed_row b.name (block_entry b) (blocks_number (length l.objects) l.sections)) (address_of l b.object b.number)
 
 abbrev pub linker_row : List ℕ → ℕ → Row
 linker_row name value = record {
@@ -100,8 +104,11 @@ linker_row name value = record {
       record { st_name = 0; st_info = STB_GLOBAL * 16 + STT_NOTYPE; st_other = 0; st_shndx = SHN_ABS; st_value = value; st_size = 0 };
 }
 
+abbrev pub named_row : Laid → SymbolOf → Option Row
+named_row l s = cond (binding s.entry == STB_LOCAL) None (symbol_row l s)
+
 abbrev pub meaning_row : Laid → Meaning → Option Row
-meaning_row l (Symbol s) = symbol_row l s
+meaning_row l (Symbol s) = named_row l s
 meaning_row l (Common b) = block_row l b
 meaning_row l (Linker name bound) = Some (linker_row name (bound_value (own_where l.base l.objects) name bound))
 

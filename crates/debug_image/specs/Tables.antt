@@ -1,6 +1,6 @@
 -- What stands behind the file part of a debuggable image: .symtab, .strtab and .shstrtab, and the section headers (System V
 -- gABI 4, "Sections", "String Table", "Symbol Table"; the order and the offsets are the profile's).
-use Rattle.std.specs.Prelude.{ℕ, ◌+◌, ◌-◌, ◌%◌, ◌^◌, ◌<◌, List, [], ◌∷◌, ◌++◌, codes, length, replicate}
+use Rattle.std.specs.Prelude.{ℕ, ◌+◌, ◌-◌, ◌%◌, ◌^◌, ◌<◌, List, [], ◌∷◌, ◌++◌, codes, length, map, replicate}
 use Rattle.std.specs.List.{flat_map}
 use Rattle.elf_model.specs.Own.ImageFile.{HeaderFields}
 use Rattle.elf_model.specs.Inputs.ObjectFile.{null_section, null_symbol}
@@ -111,6 +111,10 @@ header_rows e t =
     ++ (symtab_row (symtab_at e) (length t.symbols) (length t.sections + 2) t.locals
     ∷ (strings_row (codes ".strtab") (strtab_at e t) (length t.names)
     ∷ (strings_row (codes ".shstrtab") (shstrtab_at e t) (length t.titles) ∷ [])))
+
+-- the headers of rows, as they are told but for the offsets of their names
+abbrev pub row_headers : List HeaderRow → List SectionHeader
+row_headers rs = map (λ r. r.header) rs
 
 -- The bytes behind the last file part: the tables and the headers, with zeros in front of what stands at a multiple of 8.
 abbrev pub tail : ℕ → Tables → List ℕ

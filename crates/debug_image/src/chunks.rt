@@ -142,23 +142,34 @@ pub fn data_end(end: u64, joined: &[Joined<'_>]) -> u64
     at
 }
 
+/// The flags of tables of strings: MERGE and STRINGS (System V gABI 4, "Section Attribute Flags").
+const STRING_FLAGS: u64 = 0x30;
+
+/// Whether joined data are a table of strings.
+fn holds_strings(joined: &Joined<'_>) -> bool
+    ensures { result ≡ spec.holds_strings (joined_view joined.now) }
+{
+    joined.title == b".debug_str".as_slice() || joined.title == b".debug_line_str".as_slice()
+}
+
 /// The row of joined data at an offset of the file.
 fn joined_row<'a>(start: u64, joined: &Joined<'a>) -> HeaderRow<'a>
     ensures { header_view result ≡ spec.row_of start (joined_view joined.now) }
 {
+    let is_strings = holds_strings(joined);
     HeaderRow {
         title: joined.title,
         header: SectionHeader {
             sh_name: 0,
             sh_type: SHT_PROGBITS,
-            sh_flags: 0,
+            sh_flags: if is_strings { STRING_FLAGS } else { 0 },
             sh_addr: 0,
             sh_offset: start,
             sh_size: joined.end,
             sh_link: 0,
             sh_info: 0,
             sh_addralign: joined.align,
-            sh_entsize: 0,
+            sh_entsize: if is_strings { 1 } else { 0 },
         },
     }
 }

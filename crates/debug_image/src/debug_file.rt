@@ -1,37 +1,38 @@
 //! The file of a debuggable image.
-ghost use Rattle.std.specs.Prelude.{◌≡◌, ◌≤◌, ◌<◌, ◌^◌, ◌%◌, ◌++◌, ℕ, All, List, true, IfErr, IfOk, OnOk, cond, drop, length};
+ghost use Rattle.std.specs.Prelude.{◌≡◌, ◌≤◌, ◌<◌, ◌^◌, ◌%◌, ◌++◌, ℕ, All, List, true, IfErr, IfOk, OnOk, drop, length, replicate};
 ghost use Rattle.elf_model.specs.Own.ImageFile.{own_end, own_entry};
 ghost use Rattle.elf_model.specs.Inputs.Records.{file_header, file_header_bytes};
 ghost use Rattle.image_write.specs.Linkages.{own_image};
 ghost use Rattle.elf_model.specs.Link.Placement as placements;
 ghost use Rattle.relocate.specs.Values.{where_in};
 ghost use Rattle.resolve.specs.Views.{meaning_views};
-ghost use Rattle.search.specs.Views.{loaded_views};
-ghost use Rattle.debug_image.specs.DataIndexes.{AreIndexes};
 ghost use Rattle.debug_image.specs.DebugImage as spec;
 ghost use Rattle.debug_image.specs.PlainImages.{plain_of, with_sections};
-ghost use Rattle.debug_image.specs.DebugLayouts.{IsDataLayout, data_in};
+ghost use Rattle.debug_image.specs.DebugLayouts.{IsDataLayout, IsFound, data_in};
+ghost use Rattle.debug_image.specs.DebugPlaces.{AreDataPlaces, data_at};
 ghost use Rattle.debug_image.specs.DebugSections as sections;
-ghost use Rattle.debug_image.specs.DebugValues.{all_bytes};
+ghost use Rattle.debug_image.specs.DebugValues as values;
 ghost use Rattle.debug_image.specs.DebugViews.{chunk_views, joined_views, row_views};
+ghost use Rattle.debug_image.specs.MappedSections.{AreMapped, in_memory};
 ghost use Rattle.debug_image.specs.Tables.{IsSmall, tail};
 ghost use Rattle.debug_image.specs.Views.{tables_view};
 ghost use Rattle.debug_image.specs.declared.faults.DebugFault.TheVariants as fault;
 
 use crate::chunks::{Chunk, chunks, data_end};
-use crate::debug_bytes::chunk_bytes;
+use crate::data_places::DataPlaces;
+use crate::debug_bytes::chunk_data;
+use crate::debug_data::{DebugData, debug_data};
 use crate::debug_values::DataLayout;
 use crate::faults::DebugFault;
-use crate::joined::{DebugData, debug_data};
 use crate::link_tables::{tables_of, thread_start};
 use crate::tables::Tables;
+use crate::used_names::used_names;
 use byteview::View;
 use elf_model::FileHeader;
 use image_write::{Linkage, file_end, image};
 use layout::Placement;
 use relocate::pointer_of;
 use resolve::{Definition, Resolved};
-use search::LoadedObject;
 use std::alloc::{AllocError, Global};
 
 /// What a debuggable image is to have besides its sections and what names mean.
@@ -133,35 +134,6 @@ fn tail_of(alloc: Global, tables: &Tables<'_>, behind: u64) -> Result<Vec<u8>, A
     Ok(bytes)
 }
 
-/// The debug data of objects, where they are wanted.
-fn wanted_data<'a>(
-    alloc: Global,
-    objects: &[LoadedObject<'a>],
-    wanted: Wanted,
-) -> Result<DebugData<'a>, DebugFault>
-    ensures rows { IfOk result (λ d. row_views d.rows.items
-        ≡ spec.rows_in wanted (loaded_views objects.now)) }
-    ensures joined { IfOk result (λ d. joined_views d.joined.items
-        ≡ spec.joined_in wanted (loaded_views objects.now)) }
-    ensures low { IfOk result (λ d. All sections.IsLow (joined_views d.joined.items)) }
-    ensures ends { IfOk result (λ d. sections.AreLow (row_views d.rows.items)) }
-    ensures few { IfOk result (λ d. length d.joined.items ≤ sections.most_names) }
-    ensures large { IfErr result (λ f. f ≡ fault.TooLarge
-        → ¬ sections.AreFew (spec.rows_in wanted (loaded_views objects.now))
-        (spec.joined_in wanted (loaded_views objects.now))) }
-    ensures index { IfOk result (λ d. AreIndexes (loaded_views objects.now)
-        (row_views d.rows.items) d.index.items) }
-{
-    if wanted.debug {
-        return debug_data(alloc, objects);
-    }
-    Ok(DebugData {
-        rows: Vec::new(alloc),
-        joined: Vec::new(alloc),
-        index: Vec::new(alloc),
-    })
-}
-
 /// The parts of a link with tables, which are small, and with debug data.
 fn parts_of<'a>(
     alloc: Global,
@@ -201,7 +173,7 @@ fn parts_of<'a>(
 
 /// The parts of the debuggable image of a link: its image up to the end of the last file part, and behind that the debug data,
 /// where they are wanted, `.symtab`, `.strtab`, `.shstrtab` and the section headers. Its symbols are what names mean, and the
-/// LOCAL symbols of all objects in front of them, where they are wanted. `chunk_bytes` answers the bytes of debug data.
+/// LOCAL symbols of all objects in front of them, where they are wanted. `chunk_data` answers the bytes of debug data.
 ///
 /// # Errors
 ///
@@ -225,14 +197,18 @@ pub fn debug_parts<'a>(
         (spec.tables_in wanted linkage.now (meaning_views names.now))) }
     ensures rows { IfOk result (λ p. row_views p.data.rows.items
         ≡ spec.rows_in wanted linkage.now.objects) }
-    ensures index { IfOk result (λ p. AreIndexes linkage.now.objects
-        (row_views p.data.rows.items) p.data.index.items) }
+    ensures left { IfOk result (λ p. p.data.left ≡ spec.left_in wanted linkage.now.objects) }
+    ensures found { IfOk result (λ p. IsFound linkage.now.objects p.data) }
     ensures plain { IfOk result (λ p. linkage.now.plan.strip ≡ true
         → (rest : List ℕ) → plain_of (p.front.items ++ rest) ≡ own_image linkage.now) }
+    ensures mapped { OnOk result
+        (AreMapped (spec.debug_file wanted linkage.now (meaning_views names.now))
+        (in_memory (spec.headers_in wanted linkage.now (meaning_views names.now)))) }
     ensures large { IfErr result (λ f. f ≡ fault.TooLarge
         → ¬ spec.CanBeSaid wanted linkage.now (meaning_views names.now)) }
 {
-    let data = wanted_data(alloc, linkage.loaded().objects(), wanted)?;
+    let loaded = linkage.loaded();
+    let data = debug_data(alloc, loaded.name_seed(), loaded.objects(), wanted)?;
     let tables = tables_of(alloc, linkage, &data.joined, names, wanted.locals)?;
     if !tables.are_small() {
         return Err(DebugFault::TooLarge);
@@ -242,17 +218,11 @@ pub fn debug_parts<'a>(
     Ok(parts)
 }
 
-/// Where a link is laid out whose debug data were found.
-pub fn data_layout<'c, 'a>(
-    linkage: &'c Linkage<'a>,
-    resolved: &'c Resolved<'a>,
-    found: &'c DebugData<'a>,
-) -> DataLayout<'c, 'a>
-    requires resolved { resolved.now ≡ linkage.now.objects }
-    requires index { AreIndexes linkage.now.objects
-        (row_views found.now.rows.items) found.now.index.items }
-    ensures layout { IsDataLayout result }
-    ensures data { data_in result
+/// Where the things of a link are, whose debug data were found.
+fn places_of<'c, 'a>(linkage: &'c Linkage<'a>, found: &'c DebugData<'a>) -> DataPlaces<'c, 'a>
+    requires { IsFound linkage.now.objects found.now }
+    ensures places { AreDataPlaces result }
+    ensures data { data_at result
         ≡ record {
           base = linkage.now.plan.base;
           objects = linkage.now.objects;
@@ -260,18 +230,58 @@ pub fn data_layout<'c, 'a>(
         } }
 {
     let parts = linkage.parts();
-    let placement = &parts.placement;
-    DataLayout {
+    DataPlaces {
         objects: linkage.loaded().objects(),
-        resolved,
-        placement,
-        slots: &parts.slots,
+        placement: &parts.placement,
         rows: &found.rows,
         index: &found.index,
+        stand_ins: &found.stand_ins,
+    }
+}
+
+/// Where a link is laid out whose debug data were found.
+///
+/// # Errors
+///
+/// Only where memory is refused.
+pub fn data_layout<'c, 'a>(
+    alloc: Global,
+    linkage: &'c Linkage<'a>,
+    resolved: &'c Resolved<'a>,
+    found: &'c DebugData<'a>,
+) -> Result<DataLayout<'c, 'a>, AllocError>
+    requires resolved { resolved.now ≡ linkage.now.objects }
+    requires found { IsFound linkage.now.objects found.now }
+    ensures layout { IfOk result IsDataLayout }
+    ensures data { IfOk result (λ l. data_in l
+        ≡ record {
+          base = linkage.now.plan.base;
+          objects = linkage.now.objects;
+          rows = row_views found.now.rows.items;
+        }) }
+{
+    let places = places_of(linkage, found);
+    let placement = places.placement;
+    let loaded = linkage.loaded();
+    let names = used_names(alloc, &places, resolved, loaded)?;
+    Ok(DataLayout {
+        places,
+        loaded,
+        names,
         pointer: pointer_of(placement),
         thread_start: thread_start(placement),
         got: got_start(placement),
-    }
+    })
+}
+
+/// Adds so many zeros.
+fn add_zeros(file: &mut Vec<u8>, count: u64) -> Result<(), AllocError>
+    ensures { OnOk result (file.new.items ≡ file.old.items ++ replicate count 0) }
+{
+    let Some(end) = file.len().checked_add(count as usize) else {
+        return Err(AllocError);
+    };
+    file.resize(end, 0)
 }
 
 /// Adds the bytes of debug data.
@@ -283,10 +293,11 @@ fn add_chunks<'a>(
 ) -> Result<(), AllocError>
     requires { IsDataLayout layout.now }
     ensures { OnOk result (file.new.items
-        ≡ file.old.items ++ all_bytes (data_in layout.now) (chunk_views chunks.now)) }
+        ≡ file.old.items ++ values.all_bytes (data_in layout.now) (chunk_views chunks.now)) }
 {
     for chunk in chunks {
-        let made = chunk_bytes(alloc, layout, chunk)?;
+        add_zeros(file, chunk.pad)?;
+        let made = chunk_data(alloc, layout, chunk)?;
         file.extend_from_slice(&made.bytes)?;
     }
     Ok(())
@@ -310,11 +321,13 @@ pub fn debug_image<'a>(
         ≡ spec.debug_file wanted linkage.now (meaning_views names.now)) }
     ensures plain { IfOk result (λ v. linkage.now.plan.strip ≡ true
         → plain_of v.items ≡ own_image linkage.now) }
+    ensures mapped { IfOk result (λ v. AreMapped v.items
+        (in_memory (spec.headers_in wanted linkage.now (meaning_views names.now)))) }
     ensures large { IfErr result (λ f. f ≡ fault.TooLarge
         → ¬ spec.CanBeSaid wanted linkage.now (meaning_views names.now)) }
 {
     let parts = debug_parts(alloc, linkage, names, wanted)?;
-    let layout = data_layout(linkage, resolved, &parts.data);
+    let layout = data_layout(alloc, linkage, resolved, &parts.data)?;
     let mut file = Vec::from_slice(alloc, &parts.front)?;
     add_chunks(alloc, &mut file, &layout, &parts.chunks)?;
     file.extend_from_slice(&parts.tail)?;

@@ -11,12 +11,13 @@ use elf_model::Rela;
 use got_tls::Kind;
 use relocate::fits;
 
-/// So many bytes of a section from one on, and the value that they get.
+/// So many bytes of a section from one on, the value that they get, and whether that is the one that is wanted.
 #[derive(Clone, Copy, Debug)]
 pub struct Field {
     pub at: usize,
     pub width: usize,
     pub value: u64,
+    pub done: bool,
 }
 
 /// Whether a value fits the field of a kind.
@@ -34,10 +35,46 @@ fn is_inside(offset: u64, kind: Kind, size: usize) -> bool
     offset <= size as u64 && width <= size as u64 - offset
 }
 
-/// The field of an entry of a kind; None where it isn't inside its section, or the value doesn't fit.
-fn field_of<'a>(
-    layout: &DataLayout<'_, 'a>,
-    here: &Here<'_, '_, 'a>,
+/// The value that an entry of a kind wants, where it fits the field.
+fn fitting_value(
+    layout: &DataLayout<'_, '_>,
+    here: &Here<'_, '_, '_>,
+    kind: Kind,
+    entry: &Rela,
+) -> Option<u64>
+    requires layout { IsDataLayout layout.now }
+    requires here { IsHere layout.now here.now }
+    ensures { result ≡ spec.fitting_value (data_in layout.now) (placed_here here.now)
+        (relocation_here here.now entry.now) (kind_view kind) }
+{
+    let value = wanted_value(layout, here, kind, entry)?;
+    if is_in_range(kind, value) {
+        Some(value)
+    } else {
+        None
+    }
+}
+
+/// The field of an entry of a kind, which is inside its section: of all ones where there is no value that fits.
+fn field_with(kind: Kind, entry: &Rela, value: &Option<u64>) -> Field
+    ensures { field_view result ≡ spec.field_with entry.now (kind_view kind) value.now }
+{
+    let (value, done) = match value {
+        Some(value) => (*value, true),
+        None => (u64::MAX, false),
+    };
+    Field {
+        at: entry.r_offset as usize,
+        width: kind.width as usize,
+        value,
+        done,
+    }
+}
+
+/// The field of an entry of a kind; None where it isn't inside its section.
+fn field_of(
+    layout: &DataLayout<'_, '_>,
+    here: &Here<'_, '_, '_>,
     kind: Kind,
     entry: &Rela,
 ) -> Option<Field>
@@ -55,21 +92,13 @@ fn field_of<'a>(
     if !is_inside(entry.r_offset, kind, place.piece.bytes.len()) {
         return None;
     }
-    let value = wanted_value(layout, here, kind, entry);
-    if !is_in_range(kind, value) {
-        return None;
-    }
-    Some(Field {
-        at: entry.r_offset as usize,
-        width: kind.width as usize,
-        value,
-    })
+    Some(field_with(kind, entry, &fitting_value(layout, here, kind, entry)))
 }
 
 /// The field of an entry; None also where its type is none of a kind.
-pub fn entry_field<'a>(
-    layout: &DataLayout<'_, 'a>,
-    here: &Here<'_, '_, 'a>,
+pub fn entry_field(
+    layout: &DataLayout<'_, '_>,
+    here: &Here<'_, '_, '_>,
     entry: &Rela,
 ) -> Option<Field>
     requires layout { IsDataLayout layout.now }

@@ -13,6 +13,7 @@ ghost use Rattle.debug_image.specs.declared.faults.DebugFault.TheVariants as fau
 use crate::data_index::{DataSection, index_of};
 use crate::debug_sections::debug_pieces;
 use crate::faults::DebugFault;
+use crate::left_objects::is_flagged;
 use layout::{Piece, Place};
 use search::LoadedObject;
 use std::alloc::{AllocError, Global};
@@ -26,10 +27,10 @@ pub struct Joined<'a> {
     pub align: u64,
 }
 
-/// The sections of all objects that hold debug data, at their offsets in what is joined of their names, in a row for each
+/// The sections of all objects that go into the image, at their offsets in what is joined of their names, in a row for each
 /// object; what is joined; and an index of each row.
 #[derive(Drop)]
-pub struct DebugData<'a> {
+pub struct JoinedData<'a> {
     pub rows: Vec<Vec<Place<'a>>>,
     pub joined: Vec<Joined<'a>>,
     pub index: Vec<BTreeMap<u64, DataSection>>,
@@ -199,7 +200,7 @@ fn add_all<'a>(
     Ok(places)
 }
 
-/// Adds the sections of object `number`, a row of their offsets, and an index of that.
+/// Adds the sections of object `number`, unless it is left out, a row of their offsets, and an index of that.
 fn add_object<'a>(
     alloc: Global,
     rows: &mut Vec<Vec<Place<'a>>>,
@@ -207,54 +208,56 @@ fn add_object<'a>(
     index: &mut Vec<BTreeMap<u64, DataSection>>,
     number: u64,
     loaded: &LoadedObject<'a>,
+    left_out: bool,
 ) -> Result<(), DebugFault>
     requires low { All spec.IsLow (joined_views joined.old.items) }
     requires few { length joined.old.items ≤ spec.most_names }
     ensures rows { OnOk result (row_views rows.new.items
         ≡ row_views rows.old.items
         ++ spec.places_from (joined_views joined.old.items)
-        (spec.debug_pieces number (loaded_view loaded.now)) ∷ []) }
+        (spec.pieces_unless left_out number (loaded_view loaded.now)) ∷ []) }
     ensures ends { OnOk result (All spec.EndsLow
         (spec.places_from (joined_views joined.old.items)
-        (spec.debug_pieces number (loaded_view loaded.now)))) }
+        (spec.pieces_unless left_out number (loaded_view loaded.now)))) }
     ensures joined { OnOk result (joined_views joined.new.items
         ≡ spec.joined_all (joined_views joined.old.items)
-        (spec.debug_pieces number (loaded_view loaded.now))) }
+        (spec.pieces_unless left_out number (loaded_view loaded.now))) }
     ensures low { OnOk result (All spec.IsLow (joined_views joined.new.items)) }
     ensures few { OnOk result (length joined.new.items ≤ spec.most_names) }
     ensures large { IfErr result (λ f. f ≡ fault.TooLarge
         → ¬ spec.HaveRoom (joined_views joined.old.items)
-        (spec.debug_pieces number (loaded_view loaded.now))) }
+        (spec.pieces_unless left_out number (loaded_view loaded.now))) }
     ensures index { OnOk result ((os : List loading.LoadedObject) →
         AreAll os (row_views rows.old.items) index.old.items
         → AreAll (os ++ loaded_view loaded.now ∷ []) (row_views rows.new.items) index.new.items) }
 {
-    let pieces = debug_pieces(alloc, number, loaded)?;
+    let pieces = debug_pieces(alloc, number, loaded, left_out)?;
     let places = add_all(alloc, joined, &pieces)?;
     index.push(index_of(alloc, loaded, &places)?)?;
     rows.push(places)?;
     Ok(())
 }
 
-/// The debug data of objects.
+/// The debug data of objects, of which there is a flag for each whether it is left out.
 ///
 /// # Errors
 ///
 /// TooLarge where a section of them would end above 2^40 in what is joined of its name, or there are more than 256 names; Memory.
-pub fn debug_data<'a>(
+pub fn joined_data<'a>(
     alloc: Global,
+    flags: &[bool],
     objects: &[LoadedObject<'a>],
-) -> Result<DebugData<'a>, DebugFault>
+) -> Result<JoinedData<'a>, DebugFault>
     ensures rows { IfOk result (λ d. row_views d.rows.items
-        ≡ spec.debug_rows (loaded_views objects.now)) }
+        ≡ spec.rows_from flags.now [] 0 (loaded_views objects.now)) }
     ensures joined { IfOk result (λ d. joined_views d.joined.items
-        ≡ spec.joined_of (loaded_views objects.now)) }
+        ≡ spec.joined_from flags.now [] 0 (loaded_views objects.now)) }
     ensures low { IfOk result (λ d. All spec.IsLow (joined_views d.joined.items)) }
     ensures ends { IfOk result (λ d. spec.AreLow (row_views d.rows.items)) }
     ensures few { IfOk result (λ d. length d.joined.items ≤ spec.most_names) }
     ensures large { IfErr result (λ f. f ≡ fault.TooLarge
-        → ¬ spec.AreFew (spec.debug_rows (loaded_views objects.now))
-        (spec.joined_of (loaded_views objects.now))) }
+        → ¬ spec.AreFew (spec.rows_from flags.now [] 0 (loaded_views objects.now))
+        (spec.joined_from flags.now [] 0 (loaded_views objects.now))) }
     ensures index { IfOk result (λ d. AreAll (loaded_views objects.now)
         (row_views d.rows.items) d.index.items) }
 {
@@ -269,11 +272,12 @@ pub fn debug_data<'a>(
             &mut index,
             k as u64,
             loaded,
+            is_flagged(flags, k as u64),
         ) {
             return Err(fault);
         }
     }
-    Ok(DebugData {
+    Ok(JoinedData {
         rows,
         joined,
         index,

@@ -133,15 +133,15 @@ fn all_sections<'a>(
     requires low { All IsLow (joined_views joined.now) }
     requires few { length joined.now ≤ most_names }
     ensures { IfOk result (λ v. header_views v.items
-        ≡ image_sections.section_rows linkage.now.plan.base (own_end linkage.now.plan.base linkage.now.objects)
-        (length linkage.now.objects) (section_views found.now)
+        ≡ image_sections.section_rows linkage.now.plan.base (length linkage.now.objects)
+        (section_views found.now)
         ++ joined_rows (own_end linkage.now.plan.base linkage.now.objects)
         (joined_views joined.now)) }
 {
     let count = linkage.loaded().objects().len() as u64;
     let end = end_of(linkage);
     let base = linkage.parts().placement.base();
-    let mut rows = section_rows(alloc, base, end, count, found)?;
+    let mut rows = section_rows(alloc, base, count, found)?;
     add_joined_rows(&mut rows, end, joined)?;
     Ok(rows)
 }

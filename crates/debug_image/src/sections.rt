@@ -1,5 +1,5 @@
-//! The output sections of an image: runs of neighbouring places that are of one output section.
-ghost use Rattle.std.specs.Prelude.{◌≡◌, ◌≤◌, ◌^◌, ◌++◌, ◌∷◌, All, IfOk, List, OnOk};
+//! The output sections of an image: runs of neighbouring places that are of one output section, but for empty ones.
+ghost use Rattle.std.specs.Prelude.{◌≡◌, ◌≤◌, ◌^◌, ◌++◌, ◌∷◌, [], All, IfOk, List, OnOk, filter};
 ghost use Rattle.elf_model.specs.Own.OwnLayout.{placed_end};
 ghost use Rattle.elf_model.specs.Link.Placement.{Placed};
 ghost use Rattle.placing.specs.PlaceViews.{place_view, place_views};
@@ -14,7 +14,8 @@ use layout::{Piece, Place};
 use resolve::output_name;
 use std::alloc::{AllocError, Global};
 
-/// An output section: its first piece, the end of its last one, and the greatest alignment of them, in bytes.
+/// An output section: its first piece, the end of the last one that isn't empty, and the greatest alignment of all, in bytes.
+/// Where all are empty, it ends where it begins.
 #[derive(Clone, Copy, Debug)]
 pub struct Section<'a> {
     pub first: Place<'a>,
@@ -48,6 +49,17 @@ fn end_of(place: &Place<'_>) -> u64
     place.at + place.piece.header.sh_size
 }
 
+/// The end of a section that ended at an address, with one more piece, which moves it where it isn't empty.
+fn end_with(end: u64, place: &Place<'_>) -> u64
+    requires { placed_end (place_view place.now) ≤ 2 ^ 46 }
+    ensures { result ≡ spec.end_with end (place_view place.now) }
+{
+    if place.piece.header.sh_size == 0 {
+        return end;
+    }
+    end.max(end_of(place))
+}
+
 /// The section that begins with a piece.
 fn begun<'a>(place: &Place<'a>) -> Section<'a>
     requires { placed_end (place_view place.now) ≤ 2 ^ 46 }
@@ -67,9 +79,20 @@ fn grown<'a>(section: &Section<'a>, place: &Place<'_>) -> Section<'a>
 {
     Section {
         first: section.first,
-        end: section.end.max(end_of(place)),
+        end: end_with(section.end, place),
         align: section.align.max(place.piece.header.sh_addralign.max(1)),
     }
+}
+
+/// Puts a section behind others, if it isn't empty.
+fn add_section<'a>(found: &mut Vec<Section<'a>>, section: &Section<'a>) -> Result<(), AllocError>
+    ensures { OnOk result (section_views found.new.items
+        ≡ section_views found.old.items ++ filter spec.has_memory (section_view section.now ∷ [])) }
+{
+    if section.first.at < section.end {
+        found.push(*section)?;
+    }
+    Ok(())
 }
 
 /// The section that a piece belongs to: the current one, or else a new one, where the current one is put behind the others.
@@ -88,7 +111,7 @@ fn next<'a>(
     if is_same_section(count, &current.first.piece, &place.piece) {
         return Ok(grown(current, place));
     }
-    found.push(*current)?;
+    add_section(found, current)?;
     Ok(begun(place))
 }
 
@@ -108,11 +131,10 @@ fn add_sections<'a>(
     for place in places {
         current = next(found, count, &current, place)?;
     }
-    found.push(current)?;
-    Ok(())
+    add_section(found, &current)
 }
 
-/// The sections of places of so many objects.
+/// The sections of places of so many objects, but for empty ones.
 pub fn sections<'a>(
     alloc: Global,
     count: u64,
@@ -169,20 +191,9 @@ impl<'a> Section<'a> {
         self.first.piece.header.sh_addralign.max(1)
     }
 
-    /// Its offset in a file whose last file part has an end.
-    fn offset(&self, base: u64, end: u64) -> u64
-        ensures { result ≡ spec.offset_of base end (section_view self.now) }
-    {
-        let offset = self.first.at.saturating_sub(base);
-        if self.first.piece.header.is_nobits() {
-            return offset;
-        }
-        offset.min(end)
-    }
-
-    /// Its header, but for its name, in an image that is mapped from a base on, and whose last file part has an end.
-    pub fn header(&self, base: u64, end: u64) -> SectionHeader
-        ensures { result ≡ spec.header_of base end (section_view self.now) }
+    /// Its header, but for its name, in an image that is mapped from a base on.
+    pub fn header(&self, base: u64) -> SectionHeader
+        ensures { result ≡ spec.header_of base (section_view self.now) }
     {
         let first = &self.first;
         SectionHeader {
@@ -190,7 +201,7 @@ impl<'a> Section<'a> {
             sh_type: first.piece.header.sh_type,
             sh_flags: first.piece.header.sh_flags & 0x407,
             sh_addr: first.at,
-            sh_offset: self.offset(base, end),
+            sh_offset: first.at.saturating_sub(base),
             sh_size: self.end.saturating_sub(first.at),
             sh_link: 0,
             sh_info: 0,
@@ -200,22 +211,21 @@ impl<'a> Section<'a> {
     }
 }
 
-/// The rows of sections of so many objects, in an image that is mapped from a base on, and whose last file part has an end.
+/// The rows of sections of so many objects, in an image that is mapped from a base on.
 pub fn section_rows<'a>(
     alloc: Global,
     base: u64,
-    end: u64,
     count: u64,
     sections: &[Section<'a>],
 ) -> Result<Vec<HeaderRow<'a>>, AllocError>
     ensures { IfOk result (λ v. header_views v.items
-        ≡ spec.section_rows base end count (section_views sections.now)) }
+        ≡ spec.section_rows base count (section_views sections.now)) }
 {
     let mut rows = Vec::with_capacity(alloc, sections.len())?;
     for section in sections {
         rows.push(HeaderRow {
             title: section.title(count),
-            header: section.header(base, end),
+            header: section.header(base),
         })?;
     }
     Ok(rows)

@@ -74,8 +74,19 @@ fn value_at(layout: &Layout<'_, '_>, piece: &Piece<'_>, at: u64, offset: u64) ->
     }
 }
 
+/// The number of a section in the table of section headers, where the first of the image has number 1; SHN_ABS for an empty
+/// section, which has no header.
+fn index_of(number: Option<usize>) -> u16
+    ensures { result ≡ spec.index_of number }
+{
+    match number {
+        Some(k) => (k.wrapping_add(1) % 65536) as u16,
+        None => SHN_ABS,
+    }
+}
+
 /// The symbol of a section of the image, of which the first has number 0 here.
-fn placed_row<'a>(name: &'a [u8], entry: &Symbol, number: usize, value: u64) -> Row<'a>
+fn placed_row<'a>(name: &'a [u8], entry: &Symbol, number: Option<usize>, value: u64) -> Row<'a>
     ensures { row_view result ≡ spec.placed_row name.now entry.now number value }
 {
     Row {
@@ -84,7 +95,7 @@ fn placed_row<'a>(name: &'a [u8], entry: &Symbol, number: usize, value: u64) -> 
             st_name: 0,
             st_info: entry.st_info,
             st_other: entry.st_other,
-            st_shndx: (number.wrapping_add(1) % 65536) as u16,
+            st_shndx: index_of(number),
             st_value: value,
             st_size: entry.st_size,
         },
@@ -114,20 +125,15 @@ fn symbol_piece<'a>(objects: &[LoadedObject<'a>], symbol: &SymbolOf<'_>) -> Opti
 }
 
 /// What a symbol becomes that is defined in a piece at an address.
-fn row_in<'a>(
-    layout: &Layout<'_, 'a>,
-    symbol: &SymbolOf<'a>,
-    at: u64,
-    piece: &Piece<'a>,
-) -> Option<Row<'a>>
+fn row_in<'a>(layout: &Layout<'_, 'a>, symbol: &SymbolOf<'a>, at: u64, piece: &Piece<'a>) -> Row<'a>
     requires layout { IsLayout layout.now }
     requires inside { piece.now.object < length layout.now.objects.now }
-    ensures { option_map row_view result
+    ensures { row_view result
         ≡ spec.row_in (laid_in layout.now) (symbol_view symbol.now) at (piece_view piece.now) }
 {
-    let number = layout.numbers.of(piece)?;
+    let number = layout.numbers.of(piece);
     let value = value_at(layout, piece, at, symbol.entry.st_value);
-    Some(placed_row(symbol.name, &symbol.entry, number, value))
+    placed_row(symbol.name, &symbol.entry, number, value)
 }
 
 /// What a symbol of an object becomes whose section is at an address.
@@ -137,11 +143,11 @@ fn row_at<'a>(layout: &Layout<'_, 'a>, symbol: &SymbolOf<'a>, at: u64) -> Option
         ≡ spec.row_at (laid_in layout.now) (symbol_view symbol.now) at }
 {
     let piece = symbol_piece(layout.objects, symbol)?;
-    row_in(layout, symbol, at, &piece)
+    Some(row_in(layout, symbol, at, &piece))
 }
 
 /// What a symbol of an object becomes: an absolute one stays what it is; one in a kept section is of the section of the image to
-/// which that belongs; any other one isn't there.
+/// which that belongs, and absolute where that is empty; any other one isn't there.
 fn symbol_row<'a>(layout: &Layout<'_, 'a>, symbol: &SymbolOf<'a>) -> Option<Row<'a>>
     requires { IsLayout layout.now }
     ensures { option_map row_view result
@@ -235,7 +241,7 @@ fn block_row<'a>(layout: &Layout<'_, 'a>, block: &Block<'a>) -> Option<Row<'a>>
         ≡ spec.block_row (laid_in layout.now) (block_view block.now) }
 {
     let at = layout.placement.numbered_address(block.section())?;
-    let number = layout.numbers.blocks()?;
+    let number = layout.numbers.blocks();
     let entry = Symbol {
         st_name: 0,
         st_info: STB_GLOBAL * 16 + STT_OBJECT,
@@ -264,6 +270,18 @@ fn linker_row<'a>(name: &'a [u8], value: u64) -> Row<'a>
     }
 }
 
+/// What a symbol that a name means becomes; a LOCAL one has no name outside its object.
+fn named_row<'a>(layout: &Layout<'_, 'a>, symbol: &SymbolOf<'a>) -> Option<Row<'a>>
+    requires { IsLayout layout.now }
+    ensures { option_map row_view result
+        ≡ spec.named_row (laid_in layout.now) (symbol_view symbol.now) }
+{
+    if symbol.entry.binding() == STB_LOCAL {
+        return None;
+    }
+    symbol_row(layout, symbol)
+}
+
 /// What a name means as a symbol.
 fn meaning_row<'a>(layout: &Layout<'_, 'a>, meaning: &Definition<'a>) -> Option<Row<'a>>
     requires { IsLayout layout.now }
@@ -271,7 +289,7 @@ fn meaning_row<'a>(layout: &Layout<'_, 'a>, meaning: &Definition<'a>) -> Option<
         ≡ spec.meaning_row (laid_in layout.now) (meaning_view meaning.now) }
 {
     match meaning {
-        Definition::Symbol(symbol) => symbol_row(layout, symbol),
+        Definition::Symbol(symbol) => named_row(layout, symbol),
         Definition::Common(block) => block_row(layout, block),
         Definition::Linker(name, bound) => {
             Some(linker_row(name, layout.placement.bound(name, *bound)))

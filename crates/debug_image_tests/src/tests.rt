@@ -1,6 +1,10 @@
 //! The tests, and what they are made of.
 mod debug_data;
+mod dropped_groups;
 mod found;
+mod left_data;
 mod names;
+mod rows;
+mod sections;
 mod tables;
 mod vectors;

@@ -1,6 +1,6 @@
-//! The sections of an image, as a reader finds them (System V gABI 4, "Sections").
+//! The sections and the symbols of an image, as a reader finds them (System V gABI 4, "Sections", "Symbol Table").
 use byteview::View;
-use elf_model::{FileHeader, SectionHeader};
+use elf_model::{FileHeader, SYM_SIZE, SectionHeader, Symbol};
 use std::test::Fail;
 
 /// The header of a section, by its number.
@@ -52,4 +52,25 @@ pub fn find(image: &[u8], name: &str) -> Result<SectionHeader, Fail> {
 /// Its bytes.
 pub fn bytes_of<'i>(image: &'i [u8], name: &str) -> Result<&'i [u8], Fail> {
     Ok(contents(&View::new(image), &find(image, name)?)?.bytes())
+}
+
+/// How many section headers there are.
+pub fn section_count(image: &[u8]) -> Result<u16, Fail> {
+    let file = View::new(image);
+    let header = FileHeader::read(file.sub(0, 64).ok_or("a file header")?).ok_or("64 bytes")?;
+    Ok(header.e_shnum)
+}
+
+/// The entry of a symbol, by its number, where its name is another one as None.
+pub fn symbol_named(image: &[u8], number: usize, name: &str) -> Result<Option<Symbol>, Fail> {
+    let table = View::new(bytes_of(image, ".symtab")?);
+    let entry = table
+        .sub(SYM_SIZE.wrapping_mul(number), SYM_SIZE)
+        .ok_or("a symbol")?;
+    let symbol = Symbol::read(entry).ok_or("24 bytes")?;
+    let names = View::new(bytes_of(image, ".strtab")?);
+    if is_named(&names, symbol.st_name as usize, name) {
+        return Ok(Some(symbol));
+    }
+    Ok(None)
 }

@@ -4,7 +4,7 @@ use Rattle.std.specs.List.{flat_map, range_with_len}
 use Rattle.elf_model.specs.declared.records.Rela.{Rela}
 use Rattle.debug_image.specs.DebugLayouts.{data_in, object_here, placed_here}
 use Rattle.debug_image.specs.DebugValues.{entries_at, entry_field, is_left}
-use Rattle.debug_image.proofs.FieldSteps.{any_more, entries_more}
+use Rattle.debug_image.proofs.FieldSteps.{any_more, entries_more, marks_more}
 use Rattle.debug_image.proofs.RangeSteps.{flat_map_range}
 use Rattle.debug_image.proofs.debug_bytes.write_each.Goals as goal
 
@@ -20,5 +20,8 @@ loop-i-preserved c =
       bytes = λ k low.
           entries_more (entry_field d (placed_here h) (object_here h)) old xs _ k (slice_index c.args.bytes.now k) (slice_index c.loop-i.bytes k)
           (slice_index c.write_run.new.bytes k) next (c.loop-i.invariant.bytes k (omega arith)) (c.write_run.ensures.bytes k (omega arith));
+      marks = λ k low.
+          marks_more (entry_field d (placed_here h) (object_here h)) old xs _ k (slice_index c.args.marks.now k) (slice_index c.loop-i.marks k)
+          (slice_index c.write_run.new.marks k) next (c.loop-i.invariant.marks k (omega arith)) (c.write_run.ensures.marks k (omega arith));
       left = any_more (is_left d (placed_here h) (object_here h)) old xs _ _ _ _ next c.loop-i.invariant.left c.write_run.ensures.left c.either-left.ensures;
     }

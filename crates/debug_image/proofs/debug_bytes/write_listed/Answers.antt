@@ -5,7 +5,7 @@ use Rattle.elf_model.specs.declared.records.Rela.{Rela}
 use Rattle.debug_image.specs.DataIndexes.{relas_in}
 use Rattle.debug_image.specs.DebugLayouts.{data_in, object_here, placed_here}
 use Rattle.debug_image.specs.DebugValues.{entry_field, is_left}
-use Rattle.debug_image.proofs.FieldSteps.{any_more, entries_more}
+use Rattle.debug_image.proofs.FieldSteps.{any_more, entries_more, marks_more}
 use Rattle.debug_image.proofs.RangeSteps.{flat_map_take}
 use Rattle.debug_image.proofs.debug_bytes.write_listed.Goals as goal
 
@@ -26,5 +26,8 @@ loop-number-preserved c =
       bytes = λ k low.
           entries_more (entry_field d (placed_here h) (object_here h)) old xs _ k (slice_index c.args.bytes.now k) (slice_index c.loop-number.bytes k)
           (slice_index c.write_run.new.bytes k) next (c.loop-number.invariant.bytes k (omega arith)) (c.write_run.ensures.bytes k (omega arith));
+      marks = λ k low.
+          marks_more (entry_field d (placed_here h) (object_here h)) old xs _ k (slice_index c.args.marks.now k) (slice_index c.loop-number.marks k)
+          (slice_index c.write_run.new.marks k) next (c.loop-number.invariant.marks k (omega arith)) (c.write_run.ensures.marks k (omega arith));
       left = any_more (is_left d (placed_here h) (object_here h)) old xs _ _ _ _ next c.loop-number.invariant.left c.write_run.ensures.left c.either-left.ensures;
     }

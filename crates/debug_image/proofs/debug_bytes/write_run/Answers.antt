@@ -5,7 +5,7 @@ use Rattle.elf_read.specs.Reading.{null_rela}
 use Rattle.debug_image.specs.DebugLayouts.{data_in, object_here, placed_here}
 use Rattle.debug_image.specs.DebugValues.{entry_field, is_left}
 use Rattle.debug_image.specs.DebugViews.{field_view}
-use Rattle.debug_image.proofs.FieldSteps.{entry_more}
+use Rattle.debug_image.proofs.FieldSteps.{entry_more, mark_more}
 use Rattle.debug_image.proofs.RangeSteps.{any_take}
 use Rattle.debug_image.proofs.debug_bytes.write_run.Goals as goal
 
@@ -18,6 +18,10 @@ loop-i-preserved c =
           entry_more f es c.loop-i.i null_rela (option_map field_view c.entry_field-field.result) k (slice_index c.args.bytes.now k)
           (slice_index c.loop-i.bytes k) (slice_index c.write_some.new.bytes k) (omega arith)
           (c.entry_field-field.ensures.exact ∙ ap f c.at-entry.ensures) (c.loop-i.invariant.bytes k (omega arith)) (c.write_some.ensures k (omega arith));
+      marks = λ k low.
+          mark_more f es c.loop-i.i null_rela (option_map field_view c.entry_field-field.result) k (slice_index c.args.marks.now k)
+          (slice_index c.loop-i.marks k) (slice_index c.mark_some.new.marks k) (omega arith)
+          (c.entry_field-field.ensures.exact ∙ ap f c.at-entry.ensures) (c.loop-i.invariant.marks k (omega arith)) (c.mark_some.ensures k (omega arith));
       left =
           c.either-left.ensures
           ∙ ap (λ (b : Bool). b || c.is_left.result) c.loop-i.invariant.left

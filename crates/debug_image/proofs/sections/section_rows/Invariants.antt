@@ -6,5 +6,5 @@ use Rattle.debug_image.proofs.sections.section_rows.Given as goal
 
 abbrev pub invariant-loop-section : goal.invariant-loop-section
 invariant-loop-section l =
-    header_views l.rows.items ++ section_rows l.base l.end l.count (section_views (drop l.section-index l.sections))
-    ≡ section_rows l.base l.end l.count (section_views l.sections)
+    header_views l.rows.items ++ section_rows l.base l.count (section_views (drop l.section-index l.sections))
+    ≡ section_rows l.base l.count (section_views l.sections)
