@@ -1,0 +1,5 @@
+pub mod ChunkSteps
+pub mod Devices
+pub mod Differences
+pub mod FileParts
+pub mod StripFirst

@@ -1,0 +1,8 @@
+use Rattle.std.proofs.Common.{◌≡◌}
+use Rattle.debug_image.specs.DebugLayouts.{data_in}
+use Rattle.debug_main.specs.Written.{Written}
+use Rattle.debug_main.proofs.debug_file.write_chunks.Given as goal
+
+abbrev pub invariant-loop-chunk : goal.invariant-loop-chunk
+invariant-loop-chunk g l =
+    Written (data_in l.layout) l.chunks l.chunk-index (g.S.Sink.told l.initial.sink) (g.S.Sink.told l.sink) × (g.S.Sink.failed l.sink ≡ 0)

@@ -1,0 +1,7 @@
+pub mod Comparisons
+pub mod DebugFiles
+pub mod Phrases
+pub mod Ready
+pub mod Verdicts
+pub mod Words
+pub mod Written

@@ -1,0 +1,79 @@
+//! The link with an image for tools.
+ghost use Rattle.std.specs.Prelude.{◌≡◌, ◌≤◌, ◌⊎◌, true, IfErr, IfOk, IsErr, OnOk};
+ghost use Rattle.elf_model.specs.Inputs.Command.{command_of};
+ghost use Rattle.elf_model.specs.Inputs.Files.{files_of, words_of};
+ghost use Rattle.ld_main.specs.Program.{HasRightLink, LinksRight, failure_status};
+ghost use Rattle.debug_main.specs.Ready.{IsReady};
+ghost use Rattle.debug_main.specs.Words.{IsStripped};
+
+use crate::debug_file::DebugFile;
+use crate::parts::{made, resolved_of};
+use crate::reports::{print_left, print_unrelocated};
+use debug_image::{Wanted, data_layout};
+use elf_model::{InputFile, NameSeed, SectionRef};
+use ld_main::{
+    Failure, Linkage, MapOf, Outputs, definitions, prepare_seeded, refused, write_outputs,
+};
+use std::io::Write;
+use std::random::RandomSource;
+use std::rt::Files;
+
+/// Writes an image for tools and the map of its link, and answers the sections of debug data that aren't as they should be.
+fn write_file<'a, 'b, R: Files + AllocGlobal + RandomSource>(
+    rt: &R,
+    outputs: &Outputs<'a>,
+    linkage: &Linkage<'b>,
+    file: DebugFile<'_, 'b>,
+) -> Result<Vec<SectionRef>, Failure<'a>>
+    requires { IsReady file }
+{
+    let file = write_outputs(rt, outputs, file, MapOf { linkage })?;
+    Ok(file.into_left())
+}
+
+/// Makes the debug data and tables of a link, and writes its outputs.
+fn write_link<'a, 'b, R: Files + AllocGlobal + RandomSource, E: Write>(
+    rt: &R,
+    outputs: &Outputs<'a>,
+    files: &[InputFile],
+    linkage: &Linkage<'b>,
+    wanted: Wanted,
+    err: &mut E,
+) -> Result<(), Failure<'a>>
+    requires { linkage.now.plan.strip ≡ true }
+{
+    let alloc = rt.alloc();
+    let names = definitions(alloc, &*linkage)?;
+    let parts = made(alloc, &*linkage, &names, wanted)?;
+    let layout = data_layout(alloc, &*linkage, resolved_of(&*linkage), &parts.data)?;
+    let file = DebugFile {
+        layout: &layout,
+        parts: &parts,
+        left: Vec::new(alloc),
+    };
+    let left = write_file(rt, outputs, &*linkage, file)?;
+    let _ = print_left(err, parts.data.left);
+    let _ = print_unrelocated(err, files, linkage.loaded().objects(), &left);
+    Ok(())
+}
+
+/// Links files, and writes what comes of it: an image for tools, and the map.
+pub fn link_files<'a, R: Files + AllocGlobal + RandomSource, E: Write>(
+    rt: &R,
+    seed: NameSeed,
+    outputs: &Outputs<'a>,
+    files: &[InputFile],
+    words: &[String],
+    wanted: Wanted,
+    err: &mut E,
+) -> Result<(), Failure<'a>>
+    requires { IsStripped (words_of words.now) }
+    ensures { OnOk result (LinksRight (files_of files.now) (words_of words.now)) }
+{
+    let linkage = match prepare_seeded(rt.alloc(), files, words, seed) {
+        Ok(linkage) => linkage,
+        Err(error) => return Err(refused(rt.alloc(), error)),
+    };
+    write_link(rt, outputs, files, &linkage, wanted, err)?;
+    Ok(())
+}

@@ -1,0 +1,49 @@
+//! What an image for tools is made of.
+ghost use Rattle.std.specs.Prelude.{◌≡◌, true, IfOk};
+ghost use Rattle.debug_main.specs.DebugFiles.{AreParts};
+ghost use Rattle.resolve.specs.Views.{meaning_views};
+
+use debug_image::{DebugFault, DebugParts, Wanted, debug_parts};
+use elf_model::LinkError;
+use image_write::{Linkage, Listed};
+use resolve::{Definition, Resolved};
+use std::alloc::Global;
+
+/// The resolved names of a link whose image has no symbol table.
+pub fn resolved_of<'l, 'a>(linkage: &'l Linkage<'a>) -> &'l Resolved<'a>
+    requires { linkage.now.plan.strip ≡ true }
+    ensures { result.now ≡ linkage.now.objects }
+{
+    let parts = linkage.parts();
+    match &parts.listed {
+        Listed::Unlisted(resolved, _) => resolved,
+        Listed::InOrder(_, _) => unreachable!(),
+    }
+}
+
+/// The error of a link for which no image for tools can be made.
+fn error_of(fault: DebugFault) -> LinkError {
+    match fault {
+        DebugFault::Memory => LinkError::Memory,
+        DebugFault::TooLarge => LinkError::TooLarge,
+    }
+}
+
+/// The parts of the image for tools of a link.
+///
+/// # Errors
+///
+/// TooLarge where its numbers can't be said; Memory.
+pub fn made<'a>(
+    alloc: Global,
+    linkage: &Linkage<'a>,
+    names: &[Definition<'a>],
+    wanted: Wanted,
+) -> Result<DebugParts<'a>, LinkError>
+    ensures { IfOk result (AreParts linkage.now (meaning_views names.now) wanted) }
+{
+    match debug_parts(alloc, linkage, names, wanted) {
+        Ok(parts) => Ok(parts),
+        Err(fault) => Err(error_of(fault)),
+    }
+}

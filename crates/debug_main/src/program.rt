@@ -1,0 +1,116 @@
+//! The program `ld-debug`: links as `ld` does, and writes an image for tools; checks such an image.
+ghost use Rattle.std.specs.Prelude.{◌≡◌, ◌⊎◌, ◌≤◌, ◌∷◌, true, false, Ok, IfErr, IfOk, IsErr, IsErrAnd, codes, is_some, not};
+ghost use Rattle.elf_model.specs.Inputs.Command as command;
+ghost use Rattle.elf_model.specs.Inputs.Command.{command_of};
+ghost use Rattle.elf_model.specs.Inputs.Files.{words_of};
+ghost use Rattle.ld_main.specs.Program.{Asks, HasRightLink, failure_status};
+ghost use Rattle.debug_main.specs.Verdicts.{answer_status};
+ghost use Rattle.debug_main.specs.Words.{IsStripped, plain_words, stands_alone};
+
+use crate::checking::check_files;
+use crate::linking::link_files;
+use crate::verdict::DebugVerdict;
+use crate::words::{stands_alone, stripped};
+use debug_image::Wanted;
+use elf_model::LinkError;
+use ld_main::{Failure, Task, given_words, name_seed, read_input};
+use std::io::Write;
+use std::random::RandomSource;
+use std::rt::{Env, Files};
+
+/// What an image is to have besides sections and what names mean: no LOCAL symbols where the words have -s, no debug data where
+/// they have -S, as words of their own.
+fn wanted(words: &[String]) -> Wanted
+    ensures locals { result.locals ≡ not (stands_alone (codes "-s") (words_of words.now)) }
+    ensures data { result.debug ≡ not (stands_alone (codes "-S") (words_of words.now)) }
+{
+    Wanted {
+        locals: !stands_alone(words, "-s"),
+        debug: !stands_alone(words, "-S"),
+    }
+}
+
+/// Links or checks as words say, those with which the image at the beginning is linked and checked; None after a link.
+fn run<'a, R: Files + AllocGlobal + RandomSource, E: Write>(
+    rt: &R,
+    words: &'a [String],
+    wanted: Wanted,
+    err: &mut E,
+) -> Result<Option<DebugVerdict>, Failure<'a>>
+    requires { IsStripped (words_of words.now) }
+    ensures right { IfOk result (λ o. answer_status o ≡ 0
+        → HasRightLink (words_of words.entry.now)) }
+    ensures refused_words { IsErr (command_of (words_of words.entry.now)) →
+        IsErrAnd result (λ f. (failure_status f ≡ 2) ⊎ (failure_status f ≡ 4)) }
+    ensures mode { IfOk result (λ o. Asks (is_some o) (words_of words.entry.now)) }
+    ensures check_is_quiet { (p : command.Plan) →
+        command_of (words_of words.entry.now) ≡ Ok p → p.check ≡ true → err.new ≡ err.old }
+{
+    let (task, files) = read_input(rt, words)?;
+    let seed = name_seed(rt);
+    match task {
+        Task::Link(outputs) => {
+            link_files(rt, seed, &outputs, &files, words, wanted, err)?;
+            Ok(None)
+        }
+        Task::Check(image, map) => {
+            let verdict = check_files(rt, seed, image, map, &files, words, wanted)?;
+            Ok(Some(verdict))
+        }
+    }
+}
+
+/// Runs `ld-debug` with `given`, the words behind the program's name, and answers its exit status, as `run_ld` does. A fault of
+/// `out` or `err` changes no status.
+///
+/// - 0: the image for tools is the file at the path of `-o`, and the map of the link without a symbol table that at `-Map=`. Or,
+///   with `--check`, these two are right: `yes` on `out`.
+/// - 1: with `--check`, they are not: `no` and the least clause that fails of the image at the beginning, or `no tables`, with the
+///   first byte that isn't what it is to be. Without it, the link is refused.
+/// - 2, 3, 4: as `run_ld`.
+pub fn run_debug<R: Files + AllocGlobal + RandomSource, O: Write, E: Write>(
+    rt: &R,
+    given: &[String],
+    out: &mut O,
+    err: &mut E,
+) -> u8
+    ensures statuses { result ≤ 4 }
+    ensures right { result ≡ 0
+        → HasRightLink (codes "-s" ∷ plain_words (words_of given.now)) }
+    ensures out_quiet { 2 ≤ result → out.new ≡ out.old }
+    ensures link_prints_nothing { (p : command.Plan) →
+        command_of (plain_words (words_of given.now)) ≡ Ok p → p.check ≡ false
+        → out.new ≡ out.old }
+{
+    let Ok(words) = stripped(rt.alloc(), given) else {
+        let failure = Failure::from(LinkError::Memory);
+        let _ = failure.print(err);
+        return failure.status();
+    };
+    match run(rt, &words, wanted(given), err) {
+        Ok(Some(verdict)) => {
+            let _ = verdict.print(out);
+            verdict.status()
+        }
+        Ok(None) => 0,
+        Err(failure) => {
+            let _ = failure.print(err);
+            failure.status()
+        }
+    }
+}
+
+/// Runs `ld-debug` with the words that a runtime has behind the program's name, as `run_debug` does, and answers its exit status.
+/// Where they can't be had, that is 2 or 4, as `given_words` says.
+pub fn run_args<R: Env + Files + AllocGlobal + RandomSource, O: Write, E: Write>(
+    rt: &R,
+    out: &mut O,
+    err: &mut E,
+) -> u8
+    ensures { result ≤ 4 }
+{
+    match given_words(rt, err) {
+        Ok(words) => run_debug(rt, &words, out, err),
+        Err(status) => status,
+    }
+}
