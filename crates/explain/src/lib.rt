@@ -10,7 +10,7 @@ mod place;
 mod text;
 mod wanted;
 
-pub use lines::write_places;
+pub use lines::{write_more, write_places};
 pub use link::explain;
 pub use place::{EntryPlace, Found, Place, SymbolFault};
 pub use text::Inputs;

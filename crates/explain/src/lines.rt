@@ -11,6 +11,7 @@ use input_names::Name;
 use opening::{FileIndex, find_source};
 use relocate::RelocationFault;
 use std::alloc::{AllocError, Global};
+use std::collections::BTreeMap;
 use std::io;
 use std::io::Write;
 
@@ -105,6 +106,42 @@ fn is_slim(alloc: Global, file: &InputFile) -> bool {
     object.is_ok_and(|object| (0..object.symbols().len()).any(|j| object.symbol_name(j) == SLIM))
 }
 
+/// How many places were counted that ask for a name; one more is counted.
+fn counted<'n>(
+    counts: &mut BTreeMap<&'n [u8], usize>,
+    name: &'n [u8],
+) -> Result<usize, AllocError> {
+    if let Some(count) = counts.get_mut(&name) {
+        let before = *count;
+        *count = before.saturating_add(1);
+        return Ok(before);
+    }
+    counts.insert(name, 1)?;
+    Ok(0)
+}
+
+/// Writes how many places there are beside those that are written; nothing where there are none.
+pub fn write_more<W: Write>(out: &mut W, more: u64) -> io::Result<()> {
+    match more {
+        0 => Ok(()),
+        1 => out.write_all(b"and 1 more place\n"),
+        _ => writeln!(out, "and {more} more places"),
+    }
+}
+
+/// Writes a line for each object file that has no code of its own.
+fn write_slim<W: Write>(out: &mut W, inputs: Inputs<'_>) -> io::Result<()> {
+    let files = inputs.files.iter();
+    for file in files.filter(|file| is_slim(inputs.alloc, file)) {
+        let name = Name(file.name.as_bytes());
+        writeln!(
+            out,
+            "{name}: no code, only data for optimization at link time: compile it without -flto, or with -ffat-lto-objects"
+        )?;
+    }
+    Ok(())
+}
+
 /// Writes the places that were found, at most so many lines, and how many more places there are. Of references to one undefined
 /// name three are told, with the number of the others. Where a definition is missing, a line more for each object file that has
 /// no code of its own.
@@ -115,10 +152,14 @@ pub fn write_places<W: Write>(
     most: u64,
 ) -> io::Result<()> {
     let places = found.places.as_slice();
+    let mut counts = BTreeMap::new(inputs.alloc);
     let mut lines: u64 = 0;
     let mut more = found.more;
-    for (i, place) in places.iter().enumerate() {
-        let before = undefined_name(place).map_or(0, |name| references(&places[..i], name));
+    for place in places {
+        let before = match undefined_name(place) {
+            Some(name) => counted(&mut counts, name)?,
+            None => 0,
+        };
         if lines >= most {
             more = more.saturating_add(1);
         } else if before < REFERENCES {
@@ -126,18 +167,9 @@ pub fn write_places<W: Write>(
             lines = lines.saturating_add(1);
         }
     }
-    if more > 0 {
-        writeln!(out, "and {more} more places")?;
-    }
+    write_more(out, more)?;
     if places.iter().any(asks_for_code) {
-        let files = inputs.files.iter();
-        for file in files.filter(|file| is_slim(inputs.alloc, file)) {
-            let name = Name(file.name.as_bytes());
-            writeln!(
-                out,
-                "{name}: no code, only data for optimization at link time: compile it without -flto, or with -ffat-lto-objects"
-            )?;
-        }
+        write_slim(out, inputs)?;
     }
     Ok(())
 }

@@ -10,13 +10,14 @@ use crate::files::add_unloaded;
 use crate::place::{Added, Found, Place};
 use crate::wanted::{Wanted, add_wanted};
 use command::{Plan, read_words, refused_word};
-use elf_model::{CmdFault, InputFile, LinkError};
+use elf_model::{CmdFault, InputFile, LinkError, NameSeed};
 use got_tls::slots;
 use layout::{LayoutFault, kinds, mixed_names, place};
 use relocate::{RelocFault, pointer_of, references};
-use resolve::{ResolveFault, Resolved, resolve};
-use search::{Loaded, load};
+use resolve::{ResolveFault, Resolved, resolve_in};
+use search::{Loaded, load_seeded};
 use std::alloc::{AllocError, Global};
+use symbols::IndexedTable;
 
 /// Adds why what is loaded, whose names are resolved, isn't linked: by its references, its entry, its layout, or its values.
 fn add_unlinked<'a>(found: &mut Found<'a>, loaded: &Loaded<'a>, resolved: &Resolved<'a>) -> Added
@@ -63,7 +64,8 @@ fn add_loaded<'a>(found: &mut Found<'a>, loaded: &Loaded<'a>) -> Added
     let Ok(()) = kinds(loaded) else {
         return add_wanted(found, Wanted::UnlawfulSections, loaded);
     };
-    match resolve(found.alloc, loaded) {
+    let table = IndexedTable::with_hasher(found.alloc, loaded.name_seed());
+    match resolve_in(found.alloc, loaded, table) {
         Ok(resolved) => add_unlinked(found, loaded, &resolved),
         Err(ResolveFault::Memory) => Err(AllocError),
         Err(ResolveFault::BadCommon) => add_wanted(found, Wanted::UnsoundCommons, loaded),
@@ -75,7 +77,12 @@ fn add_loaded<'a>(found: &mut Found<'a>, loaded: &Loaded<'a>) -> Added
 }
 
 /// Adds why the link of files that words name is refused.
-fn add_reasons<'a>(found: &mut Found<'a>, files: &'a [InputFile], words: &'a [String]) -> Added
+fn add_reasons<'a>(
+    found: &mut Found<'a>,
+    files: &'a [InputFile],
+    words: &'a [String],
+    seed: NameSeed,
+) -> Added
     requires { (g : Ground) → AreSo g found.old.places.items }
     ensures { OnOk result (All
         (Says (files_of files.now) (words_of words.now)) found.new.places.items) }
@@ -89,7 +96,7 @@ fn add_reasons<'a>(found: &mut Found<'a>, files: &'a [InputFile], words: &'a [St
             return found.add(Some(Place::Word(number, fault)));
         }
     };
-    match load(alloc, &plan, files) {
+    match load_seeded(alloc, &plan, files, seed) {
         Ok(loaded) => add_loaded(found, &loaded),
         Err(fault) => add_unloaded(found, files, &plan, fault),
     }
@@ -97,7 +104,8 @@ fn add_reasons<'a>(found: &mut Found<'a>, files: &'a [InputFile], words: &'a [St
 
 /// Why the link of files that words name is refused with an error: the first places at which something is wrong, at most so
 /// many, and how many more there are. They are of the phase of the error, each with the error's cause or that of an error of the
-/// same phase; where none is found, the error as a whole.
+/// same phase; where none is found, the error as a whole. Names are found by hash, from a seed: who picks the names can make them
+/// collide only where the seed is known.
 ///
 /// # Errors
 ///
@@ -108,6 +116,7 @@ pub fn explain<'a>(
     words: &'a [String],
     error: &'a LinkError,
     most: usize,
+    seed: NameSeed,
 ) -> Result<Found<'a>, AllocError>
     requires { Cause (files_of files.now) (words_of words.now) error.now }
     ensures holds { IfOk result (λ f.
@@ -119,7 +128,7 @@ pub fn explain<'a>(
         LinkError::Memory => Err(AllocError),
         _ => {
             let mut found = Found::new(alloc, most);
-            add_reasons(&mut found, files, words)?;
+            add_reasons(&mut found, files, words, seed)?;
             found.told(error, most)
         }
     }

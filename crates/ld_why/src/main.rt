@@ -1,20 +1,9 @@
-//! The program `ld-why`: says why `ld` refuses a link, or says no to one, place by place.
+//! The program `ld-why`: says why `ld` refuses a link, or says no to one, place by place. `why_main` is all of it.
 #![tactic(auto)]
 
-use ld_main::{no_words, words};
-use std::io::Write;
 use std::process::ExitCode;
-use why_main::run;
+use why_main::run_args;
 
 fn main(rt: HostRuntime) -> ExitCode {
-    let mut out = rt.stdout();
-    let status = match words(&rt) {
-        Ok(words) => run(&rt, &words, &mut out),
-        Err(error) => {
-            let (line, status) = no_words(&error);
-            let _ = writeln!(out, "{line}");
-            status
-        }
-    };
-    ExitCode::from(status)
+    ExitCode::from(run_args(&rt, &mut rt.stdout()))
 }

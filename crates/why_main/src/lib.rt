@@ -3,7 +3,7 @@
 //! Begin with `run`.
 #![tactic(auto)]
 
-ghost use Rattle.std.specs.Prelude.{◌≡◌, ◌≢◌, ◌≤◌, IfOk, IsErr};
+ghost use Rattle.std.specs.Prelude.{◌≡◌, ◌≢◌, ◌⊎◌, ◌≤◌, IfOk, IsErr};
 ghost use Rattle.elf_model.specs.Own.Causes.{Cause};
 ghost use Rattle.elf_model.specs.Inputs.Command.{command_of};
 ghost use Rattle.elf_model.specs.Inputs.Files.{files_of, words_of};
@@ -12,17 +12,22 @@ ghost use Rattle.ld_main.specs.Program.{HasRightLink, failure_status};
 use byteview::View;
 use check_link::Link;
 use command::{Plan, read_words};
-use elf_model::{Clause, CmdFault, InputFile, LinkError, LoadFault, MapFault};
-use explain::{Inputs, explain, write_places};
+use elf_model::{Clause, CmdFault, InputFile, LinkError, LoadFault, MapFault, NameSeed};
+use explain::{Inputs, explain, write_more, write_places};
 use explain_check::{CheckPlace, Found, explain_check, read_link, write_check_place};
+use file_io::OutputPath;
 use input_names::Name;
-use ld_main::{Failure, RealFiles, Verdict, check, gather, prepare, read_file, refused};
+use ld_main::{
+    Failure, NewFile, Outputs, Verdict, check_in, given_words, name_seed, outputs, prepare_seeded,
+    read_file, read_files, read_other_files, refused,
+};
 use loader_model::Memory;
 use std::alloc::{AllocError, Global};
 use std::fs::File;
 use std::io;
 use std::io::{ErrorKind, Read, Write};
-use std::rt::Files;
+use std::random::RandomSource;
+use std::rt::{Env, Files};
 
 /// How many places are printed, and how many are looked for where some are printed as one.
 const MOST: usize = 20;
@@ -32,25 +37,18 @@ const PLACES: usize = 4096;
 /// The status where memory can't be had.
 const NO_MEMORY: u8 = 4;
 
-/// Writes how many places there are beside those that are printed.
-fn write_more<W: Write>(out: &mut W, more: u64) -> io::Result<()> {
-    if more > 0 {
-        writeln!(out, "and {more} more places")?;
-    }
-    Ok(())
-}
-
 /// The lines that explain why the link of files that words name is refused with an error: the places that were found, a line
 /// each, and how many more there are.
 fn reasons(
     alloc: Global,
+    seed: NameSeed,
     files: &[InputFile],
     words: &[String],
     error: &LinkError,
 ) -> io::Result<Vec<u8>>
     requires { Cause (files_of files.now) (words_of words.now) error.now }
 {
-    let found = explain(alloc, files, words, error, PLACES)?;
+    let found = explain(alloc, files, words, error, PLACES, seed)?;
     let inputs = Inputs {
         alloc,
         files,
@@ -79,18 +77,25 @@ fn reason<R: Files>(rt: &R, path: &str) -> Option<io::Error> {
     file.read(&mut byte).err()
 }
 
-/// Prints the line of a failure, and below it the system's reason where a file can't be read; answers the failure's status.
-fn fail_reading<R: Files, W: Write>(rt: &R, out: &mut W, failure: &Failure<'_>) -> io::Result<u8>
+/// Prints the line of a failure of a file, and below it the reason: the system's, where a file can't be read; or that it is an
+/// input, where it isn't written. Answers the failure's status.
+fn fail_file<R: Files, W: Write>(rt: &R, out: &mut W, failure: &Failure<'_>) -> io::Result<u8>
     requires { 3 ≤ failure_status failure.now }
     ensures low { IfOk result (λ n. 3 ≤ n) }
     ensures statuses { IfOk result (λ n. n ≤ 4) }
 {
     let status = fail(out, failure)?;
-    let Failure::CannotRead(path) = failure else {
-        return Ok(status);
-    };
-    if let Some(error) = reason(rt, path) {
-        writeln!(out, "{}: {error}", Name(path.as_bytes()))?;
+    match failure {
+        Failure::CannotRead(path) => {
+            if let Some(error) = reason(rt, path) {
+                writeln!(out, "{}: {error}", Name(path.as_bytes()))?;
+            }
+        }
+        Failure::CannotWrite(path) => {
+            let name = Name(path.as_bytes());
+            writeln!(out, "{name}: one of the files that are read")?;
+        }
+        Failure::Refused { .. } => {}
     }
     Ok(status)
 }
@@ -98,6 +103,7 @@ fn fail_reading<R: Files, W: Write>(rt: &R, out: &mut W, failure: &Failure<'_>) 
 /// Prints the line of a refusal, and below it why; of want of memory the line alone.
 fn refuse<W: Write>(
     alloc: Global,
+    seed: NameSeed,
     out: &mut W,
     files: &[InputFile],
     words: &[String],
@@ -108,7 +114,7 @@ fn refuse<W: Write>(
     ensures statuses { IfOk result (λ n. n ≤ 4) }
     ensures words_alone { IfOk result (λ n. n ≡ 2 → IsErr (command_of (words_of words.now))) }
 {
-    let text = reasons(alloc, files, words, &error)?;
+    let text = reasons(alloc, seed, files, words, &error)?;
     let status = fail(out, &refused(alloc, error))?;
     if status != NO_MEMORY {
         out.write_all(&text)?;
@@ -119,6 +125,7 @@ fn refuse<W: Write>(
 /// Links files without writing anything, and explains the refusal where there is one.
 fn link<W: Write>(
     alloc: Global,
+    seed: NameSeed,
     out: &mut W,
     files: &[InputFile],
     words: &[String],
@@ -127,9 +134,9 @@ fn link<W: Write>(
     ensures right { IfOk result (λ n. n ≡ 0 → HasRightLink (words_of words.now)) }
     ensures words_alone { IfOk result (λ n. n ≡ 2 → IsErr (command_of (words_of words.now))) }
 {
-    match prepare(alloc, files, words) {
+    match prepare_seeded(alloc, files, words, seed) {
         Ok(_) => Ok(0),
-        Err(error) => refuse(alloc, out, files, words, error),
+        Err(error) => refuse(alloc, seed, out, files, words, error),
     }
 }
 
@@ -199,6 +206,7 @@ fn is_of(error: &LinkError, clause: Clause) -> bool {
 /// The lines that explain an error of a link, where by it a clause fails of each image and map; else none.
 fn error_reasons(
     alloc: Global,
+    seed: NameSeed,
     files: &[InputFile],
     words: &[String],
     error: &LinkError,
@@ -207,7 +215,7 @@ fn error_reasons(
     requires { Cause (files_of files.now) (words_of words.now) error.now }
 {
     if is_of(error, clause) {
-        return reasons(alloc, files, words, error);
+        return reasons(alloc, seed, files, words, error);
     }
     Ok(Vec::new(alloc))
 }
@@ -215,13 +223,14 @@ fn error_reasons(
 /// The lines that explain why a clause fails of each image and map of files and words, or none.
 fn input_reasons(
     alloc: Global,
+    seed: NameSeed,
     files: &[InputFile],
     words: &[String],
     clause: Clause,
 ) -> io::Result<Vec<u8>> {
-    match prepare(alloc, files, words) {
+    match prepare_seeded(alloc, files, words, seed) {
         Ok(_) => Ok(Vec::new(alloc)),
-        Err(error) => error_reasons(alloc, files, words, &error, clause),
+        Err(error) => error_reasons(alloc, seed, files, words, &error, clause),
     }
 }
 
@@ -237,6 +246,7 @@ fn is_whole(found: &Found<'_>) -> bool {
 /// are refused.
 fn link_failures(
     alloc: Global,
+    seed: NameSeed,
     words: &[String],
     link: &Link<'_>,
     map: &[u8],
@@ -245,7 +255,7 @@ fn link_failures(
     let found = explain_check(alloc, link, MOST)?;
     let mut text = Vec::new(alloc);
     if is_whole(&found) {
-        text = input_reasons(alloc, link.files, words, clause)?;
+        text = input_reasons(alloc, seed, link.files, words, clause)?;
     }
     if text.is_empty() {
         write_failures(alloc, &mut text, link, map, &found)?;
@@ -256,6 +266,7 @@ fn link_failures(
 /// The lines that explain why a clause fails of an image and a map.
 fn failures(
     alloc: Global,
+    seed: NameSeed,
     plan: &Plan<'_>,
     files: &[InputFile],
     words: &[String],
@@ -269,7 +280,7 @@ fn failures(
         Clause::C4 => write_image_fault(alloc, &mut text, plan, image)?,
         _ => {
             if let Some(link) = read_link(alloc, files, words, image, map)? {
-                return link_failures(alloc, words, &link, map, clause);
+                return link_failures(alloc, seed, words, &link, map, clause);
             }
         }
     }
@@ -279,6 +290,7 @@ fn failures(
 /// Checks an image and a map, and explains why they are no right link.
 fn judge<W: Write>(
     alloc: Global,
+    seed: NameSeed,
     out: &mut W,
     plan: &Plan<'_>,
     files: &[InputFile],
@@ -289,13 +301,13 @@ fn judge<W: Write>(
     ensures statuses { IfOk result (λ n. n ≤ 1) }
     ensures right { IfOk result (λ n. n ≡ 0 → HasRightLink (words_of words.now)) }
 {
-    match check(alloc, files, words, image, map)? {
+    match check_in(alloc, files, words, image, map, seed)? {
         Verdict::Yes => {
             writeln!(out, "yes")?;
             Ok(0)
         }
         Verdict::No(clause) => {
-            let text = failures(alloc, plan, files, words, image, map, clause)?;
+            let text = failures(alloc, seed, plan, files, words, image, map, clause)?;
             writeln!(out, "no C{}", clause as u8)?;
             out.write_all(&text)?;
             Ok(1)
@@ -304,7 +316,7 @@ fn judge<W: Write>(
 }
 
 /// Reads the image and the map that a plan names, and checks them.
-fn check_files<R: Files + AllocGlobal, W: Write>(
+fn check_files<R: Files + AllocGlobal + RandomSource, W: Write>(
     rt: &R,
     out: &mut W,
     plan: &Plan<'_>,
@@ -317,17 +329,63 @@ fn check_files<R: Files + AllocGlobal, W: Write>(
 {
     let image = match read_file(rt, plan.output) {
         Ok(image) => image,
-        Err(failure) => return fail_reading(rt, out, &failure),
+        Err(failure) => return fail_file(rt, out, &failure),
     };
     let map = match read_file(rt, plan.map.unwrap_or("")) {
         Ok(map) => map,
-        Err(failure) => return fail_reading(rt, out, &failure),
+        Err(failure) => return fail_file(rt, out, &failure),
     };
-    judge(rt.alloc(), out, plan, files, words, &image, &map)
+    judge(
+        rt.alloc(),
+        name_seed(rt),
+        out,
+        plan,
+        files,
+        words,
+        &image,
+        &map,
+    )
 }
 
-/// Reads the files that a plan names, and links or checks them.
-fn run_plan<R: Files + AllocGlobal, W: Write>(
+/// Says why an output can't be written, with the system's reason, and answers the status of that; 0 where it can be. Nothing is
+/// written: where a link would make a new file, it is made and removed again.
+fn probe<R: Files + AllocGlobal + RandomSource, W: Write>(
+    rt: &R,
+    out: &mut W,
+    output: OutputPath<'_>,
+) -> io::Result<u8>
+    ensures statuses { IfOk result (λ n. n ≤ 4) }
+    ensures kinds { IfOk result (λ n. (n ≡ 0) ⊎ (3 ≤ n)) }
+{
+    let Err(error) = NewFile::probe(rt, output) else {
+        return Ok(0);
+    };
+    if error.kind() == ErrorKind::OutOfMemory {
+        return Err(error);
+    }
+    let status = fail(out, &Failure::CannotWrite(output.path()))?;
+    writeln!(out, "{}: {error}", Name(output.path().as_bytes()))?;
+    Ok(status)
+}
+
+/// The same of the image, and of the map where it has a path.
+fn probe_both<R: Files + AllocGlobal + RandomSource, W: Write>(
+    rt: &R,
+    out: &mut W,
+    outputs: &Outputs<'_>,
+) -> io::Result<u8>
+    ensures statuses { IfOk result (λ n. n ≤ 4) }
+    ensures kinds { IfOk result (λ n. (n ≡ 0) ⊎ (3 ≤ n)) }
+{
+    let status = probe(rt, out, outputs.image)?;
+    match outputs.map {
+        Some(map) if status == 0 => probe(rt, out, map),
+        _ => Ok(status),
+    }
+}
+
+/// Reads the files that a plan names, and links them without writing anything.
+fn link_plan<R: Files + AllocGlobal + RandomSource, W: Write>(
     rt: &R,
     out: &mut W,
     plan: &Plan<'_>,
@@ -337,17 +395,43 @@ fn run_plan<R: Files + AllocGlobal, W: Write>(
     ensures right { IfOk result (λ n. n ≡ 0 → HasRightLink (words_of words.now)) }
     ensures words_alone { IfOk result (λ n. n ≡ 2 → IsErr (command_of (words_of words.now))) }
 {
-    let files = match gather(rt.alloc(), plan, &mut RealFiles::new(rt, &[])) {
+    let outputs = outputs(rt, plan);
+    let files = match read_other_files(rt, plan, &outputs) {
         Ok(files) => files,
-        Err(fault) => return fail_reading(rt, out, &Failure::from(fault)),
+        Err(failure) => return fail_file(rt, out, &failure),
     };
-    if plan.check {
-        return check_files(rt, out, plan, &files, words);
+    let status = link(rt.alloc(), name_seed(rt), out, &files, words)?;
+    if status != 0 {
+        return Ok(status);
     }
-    link(rt.alloc(), out, &files, words)
+    probe_both(rt, out, &outputs)
 }
 
-fn answer<R: Files + AllocGlobal, W: Write>(rt: &R, words: &[String], out: &mut W) -> io::Result<u8>
+/// Reads the files that a plan names, and links or checks them.
+fn run_plan<R: Files + AllocGlobal + RandomSource, W: Write>(
+    rt: &R,
+    out: &mut W,
+    plan: &Plan<'_>,
+    words: &[String],
+) -> io::Result<u8>
+    ensures statuses { IfOk result (λ n. n ≤ 4) }
+    ensures right { IfOk result (λ n. n ≡ 0 → HasRightLink (words_of words.now)) }
+    ensures words_alone { IfOk result (λ n. n ≡ 2 → IsErr (command_of (words_of words.now))) }
+{
+    if !plan.check {
+        return link_plan(rt, out, plan, words);
+    }
+    match read_files(rt, plan) {
+        Ok(files) => check_files(rt, out, plan, &files, words),
+        Err(failure) => fail_file(rt, out, &failure),
+    }
+}
+
+fn answer<R: Files + AllocGlobal + RandomSource, W: Write>(
+    rt: &R,
+    words: &[String],
+    out: &mut W,
+) -> io::Result<u8>
     ensures statuses { IfOk result (λ n. n ≤ 4) }
     ensures right { IfOk result (λ n. n ≡ 0 → HasRightLink (words_of words.now)) }
     ensures words_alone { IfOk result (λ n. n ≡ 2 → IsErr (command_of (words_of words.now))) }
@@ -355,13 +439,25 @@ fn answer<R: Files + AllocGlobal, W: Write>(rt: &R, words: &[String], out: &mut 
     match read_words(rt.alloc(), words) {
         Ok(plan) => run_plan(rt, out, &plan, words),
         Err(CmdFault::Memory) => fail(out, &Failure::from(CmdFault::Memory)),
-        Err(fault) => refuse(rt.alloc(), out, &[], words, LinkError::Command(fault)),
+        Err(fault) => refuse(
+            rt.alloc(),
+            name_seed(rt),
+            out,
+            &[],
+            words,
+            LinkError::Command(fault),
+        ),
     }
 }
 
-/// Says why `ld` refuses these words or the link that they check, and answers the exit status of `ld`; 3 where a file can't
-/// be read or a line can't be written, 4 where memory can't be had, each with a line. It writes no file.
-pub fn run<R: Files + AllocGlobal, W: Write>(rt: &R, words: &[String], out: &mut W) -> u8
+/// Says why `ld` refuses these words or the link that they check, or can't read or write a file, and answers the exit status of
+/// `ld`; 3 where a line can't be written, 4 where memory can't be had. It writes no file: where `ld` would make a new one, that is
+/// made and removed again.
+pub fn run<R: Files + AllocGlobal + RandomSource, W: Write>(
+    rt: &R,
+    words: &[String],
+    out: &mut W,
+) -> u8
     ensures statuses { result ≤ 4 }
     ensures right { result ≡ 0 → HasRightLink (words_of words.now) }
     ensures words_alone { result ≡ 2 → IsErr (command_of (words_of words.now)) }
@@ -375,5 +471,16 @@ pub fn run<R: Files + AllocGlobal, W: Write>(rt: &R, words: &[String], out: &mut
             }
             _ => 3,
         },
+    }
+}
+
+/// Runs `ld-why` with the words that a runtime has behind the program's name, as `run` does, and answers its exit status. Where they
+/// can't be had, that is 2 or 4, as `given_words` says.
+pub fn run_args<R: Env + Files + AllocGlobal + RandomSource, W: Write>(rt: &R, out: &mut W) -> u8
+    ensures { result ≤ 4 }
+{
+    match given_words(rt, out) {
+        Ok(words) => run(rt, &words, out),
+        Err(status) => status,
     }
 }

@@ -5,13 +5,34 @@ use crate::tests::samples::{
     LOADING, PLAIN, TWO, WITH_COMMON, WITH_THREAD_ZEROS, WITH_TWO_COMMONS,
 };
 use link_samples::links::{Change, File};
-use link_samples::parts::{BSS, DATA, START, TEXT};
+use link_samples::objects::NamedSymbol;
+use link_samples::parts::{BSS, COMMON, DATA, START, TEXT};
 use std::test::Fail;
 
 /// A `.data` that needs an alignment, and one without bytes.
 const WITH_DATA_AND_ZEROS: &[File] = &[File::Object("a.o", &[TEXT, DATA, BSS], &[START], &[])];
 
-static PLACED: [Row; 9] = [
+/// Two common blocks of one size.
+const TWO_COMMONS: &[File] = &[File::Object(
+    "a.o",
+    &[TEXT],
+    &[
+        START,
+        COMMON,
+        NamedSymbol {
+            name: "d",
+            ..COMMON
+        },
+    ],
+    &[],
+)];
+
+static PLACED: [Row; 10] = [
+    (
+        TWO_COMMONS,
+        Change::Text("common 0000000000402008", "common 000000000040200c"),
+        "common block d at 0x40200c, 0x8 bytes: not aligned to 8\n",
+    ),
     (PLAIN, Change::Nothing, ""),
     (
         PLAIN,

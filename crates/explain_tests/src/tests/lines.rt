@@ -1,5 +1,5 @@
 //! The lines of an explanation.
-use elf_model::InputFile;
+use elf_model::{InputFile, NameSeed};
 use explain::{Inputs, explain, write_places};
 use ld_main::prepare;
 use link_samples::one_object::words_of;
@@ -22,7 +22,7 @@ pub fn lines_of(
     let Err(error) = prepare(alloc, files, words) else {
         return Ok(String::new(alloc));
     };
-    let found = explain(alloc, files, words, &error, PLACES)?;
+    let found = explain(alloc, files, words, &error, PLACES, NameSeed::fixed())?;
     let inputs = Inputs {
         alloc,
         files,

@@ -123,7 +123,52 @@ const START_IN_2: NamedSymbol<'static> = NamedSymbol {
     ..START
 };
 
-const FILES: [Row; 11] = [
+/// A member of one byte, with the byte that pads it, and then one that is no object.
+const ODD: File = File::Bytes(
+    "o.a",
+    b"!<arch>\n\
+      /               0           0     0     644     10        `\n\
+      \0\0\0\x01\0\0\0\x8cf\0\
+      1.o/            0           0     0     644     1         `\n\
+      x\n\
+      odd.o/          0           0     0     644     4         `\n\
+      \x7fELF",
+);
+
+/// A file of the name of another one, which comes first.
+const LATER: File = File::Bytes(
+    "b.a",
+    b"!<arch>\n\
+      /               0           0     0     644     10        `\n\
+      \0\0\0\x01\0\0\0\x4ef\0\
+      later.o/        0           0     0     644     4         `\n\
+      \x7fELF",
+);
+
+const FILES: [Row; 14] = [
+    (
+        &[PLAIN, ODD],
+        "a.o -u f o.a",
+        9,
+        "o.a(odd.o at 0x8c): Truncated (2): shorter than the header of an ELF file\n",
+    ),
+    (
+        &[PLAIN, BROKEN, LATER],
+        "a.o -u f b.a",
+        9,
+        "b.a(long_named.o at 0x4e): Truncated (2): shorter than the header of an ELF file\n",
+    ),
+    // A library of a name isn't a file whose name ends alike.
+    (
+        &[
+            PLAIN,
+            File::Bytes("q/xlibn.a", b"!<thin>\n"),
+            File::Bytes("q/libn.a", b"!<arch>\n"),
+        ],
+        "a.o -Lq q/xlibn.a -ln",
+        9,
+        "q/xlibn.a: NotArchive (2): a thin archive, which has no members of its own: ar makes one that has without T\n",
+    ),
     (
         &[File::Object("a.o", &[BAD_GROUP, TEXT], &[START_IN_2], &[])],
         "a.o",
@@ -297,7 +342,7 @@ const NAMES: [Row; 6] = [
         2,
         "a.o: symbol 2 f of .text: defined here\n\
          b.o (item 1): symbol 1 f of .text: defined here\n\
-         and 1 more places\n",
+         and 1 more place\n",
     ),
     (
         &[File::Object("a.o", &[TEXT, HUGE], &[START], &[])],
@@ -338,7 +383,60 @@ const SLIM: NamedSymbol<'static> = NamedSymbol {
     ..COMMON
 };
 
-const RELOCATIONS: [Row; 14] = [
+/// A second function, right after the nine bytes of the first.
+const SECOND: NamedSymbol<'static> = NamedSymbol {
+    name: "second",
+    st_value: 9,
+    st_size: 4,
+    ..START
+};
+
+const RELOCATIONS: [Row; 17] = [
+    // Two functions: the byte after the first is the second's, and that after the second no function's.
+    (
+        &[File::Object(
+            "a.o",
+            &[LONG_TEXT],
+            &[START, SECOND, NO_F],
+            &[
+                Relocation(1, 4, R_PC32, 3, 0),
+                Relocation(1, 9, R_PC32, 3, 0),
+            ],
+        )],
+        "a.o",
+        9,
+        "a.o: .text+0x4 in _start: f is not defined (relocation 0 of section 4, R_X86_64_PC32, to symbol 3)\n\
+         a.o: .text+0x9 in second: f is not defined (relocation 1 of section 4, R_X86_64_PC32, to symbol 3)\n",
+    ),
+    (
+        &[File::Object(
+            "a.o",
+            &[LONG_TEXT],
+            &[START, SECOND, NO_F],
+            &[Relocation(1, 13, R_PC32, 3, 0)],
+        )],
+        "a.o",
+        9,
+        "a.o: .text+0xd: f is not defined (relocation 0 of section 4, R_X86_64_PC32, to symbol 3)\n",
+    ),
+    // Fields of two sections at like offsets: those of the first share a byte.
+    (
+        &[File::Object(
+            "a.o",
+            &[TEXT, DATA],
+            &[START],
+            &[
+                Relocation(1, 0, R_PC32, 1, 0),
+                Relocation(2, 1, R_PC32, 1, 0),
+                Relocation(1, 2, R_PC32, 1, 0),
+            ],
+        )],
+        "a.o",
+        9,
+        "a.o: .text+0x0 in _start: relocation 0 of section 5, R_X86_64_PC32, to symbol 1 _start of .text: its field \
+         shares a byte with that of a.o: .text+0x2 in _start: relocation 1 of section 5, R_X86_64_PC32, to symbol 1 \
+         _start of .text\n",
+    ),
     (
         &[File::Object("s.o", &[], &[SLIM], &[])],
         "s.o",
