@@ -1,4 +1,6 @@
 //! The tests, and what they are made of.
+mod debug_runs;
+mod drawn;
 mod explanations;
 mod files;
 mod large_images;

@@ -1,6 +1,6 @@
 //! The files that a run opens, in order, and what comes of input that answers in another way than a disk mostly does.
 use crate::tests::machine::StoredFile;
-use crate::tests::runs::{Outcome, run_line, spelled};
+use crate::tests::runs::{Outcome, run_line};
 use link_samples::objects::{Relocation, relocatable};
 use link_samples::parts::{NO_F, R_PC32, START, TEXT};
 use link_samples::vectors::{MAP, OBJECT, image};
@@ -78,21 +78,21 @@ fn outcome(alloc: Global, line: &str) -> Result<Outcome, Fail> {
     run_line(alloc, &stored, line)
 }
 
-/// Lines, and all that comes of a run but the bytes of files. The name of a new file begins with `NEW`.
+/// Lines, and all that comes of a run but the bytes of files.
 static ROWS: [(&str, &str); 30] = [
     // A link writes the image and then the map, and nothing else.
     (
         "-s a.o",
-        "stat a.out\nread a.o\nstat a.out\nnew NEW0\nmode 100755\nrename NEW0 to a.out\nout: \nerr: \nstatus 0",
+        "stat a.out\nread a.o\nopen a.out\nnew .a.out.ld-0\nmode 100755\nrename .a.out.ld-0 to a.out\nout: \nerr: \nstatus 0",
     ),
     (
         "-s a.o -Map=start.map -o start",
-        "stat start\nstat start.map\nread a.o\nstat start\nnew NEW0\nmode 100755\nstat start.map\nnew NEW0\nnew NEW1\nrename NEW0 to start\nrename NEW1 to start.map\nout: \nerr: \nstatus 0",
+        "stat start\nstat start.map\nread a.o\nopen start\nnew .start.ld-0\nmode 100755\nopen start.map\nnew .start.map.ld-0\nrename .start.ld-0 to start\nrename .start.map.ld-0 to start.map\nout: \nerr: \nstatus 0",
     ),
     // Each candidate is read once, in order, wherever it stands in the line; one that isn't there is left out.
     (
         "-s a.o -Lnone -lx -L libs libs/libx.a",
-        "stat a.out\nread a.o\nread none/libx.a\nread libs/libx.a\nstat a.out\nnew NEW0\nmode 100755\nrename NEW0 to a.out\nout: \nerr: \nstatus 0",
+        "stat a.out\nread a.o\nread none/libx.a\nread libs/libx.a\nopen a.out\nnew .a.out.ld-0\nmode 100755\nrename .a.out.ld-0 to a.out\nout: \nerr: \nstatus 0",
     ),
     (
         "a.o a.o",
@@ -213,7 +213,7 @@ static ROWS: [(&str, &str); 30] = [
 fn files_are_opened_in_order_and_faults_are_told(rt: HostRuntime) -> Result<(), Fail> {
     for (line, wanted) in &ROWS {
         let told = outcome(rt.alloc(), line)?.told;
-        assert_eq!(rt; told, spelled(rt.alloc(), wanted)?);
+        assert_eq!(rt; told.as_str(), *wanted);
     }
     Ok(())
 }

@@ -77,32 +77,43 @@ impl<'a> StoredFile<'a> {
     }
 }
 
-/// How files answer that a run makes where there were none.
+/// How files answer that a run makes where there were none. What is said of a path is said of all that begin with it.
 #[derive(Clone, Copy)]
 pub struct NewFiles {
     /// How many bytes a write takes at most, one at least.
     pub step: usize,
-    /// The offset from which on they can't be written, and why.
-    pub torn: Option<(usize, ErrorKind)>,
-    /// Why none is made.
-    pub locked: Option<ErrorKind>,
+    /// Whether every other write is interrupted.
+    pub interrupts: bool,
+    /// The paths of those that can't be written from an offset on, and why.
+    pub torn: Option<(&'static str, usize, ErrorKind)>,
+    /// The paths at which none is made, and why.
+    pub locked: Option<(&'static str, ErrorKind)>,
     /// Why none is passed over in.
     pub rigid: Option<ErrorKind>,
     /// Why the length of none is set.
     pub fixed: Option<ErrorKind>,
-    /// The number in the name of one that gets no other name, and why.
-    pub bound: Option<(usize, ErrorKind)>,
+    /// The paths that none gets, and why.
+    pub bound: Option<(&'static str, ErrorKind)>,
 }
 
 /// Files with nothing wrong.
 pub const SOUND: NewFiles = NewFiles {
     step: usize::MAX,
+    interrupts: false,
     torn: None,
     locked: None,
     rigid: None,
     fixed: None,
     bound: None,
 };
+
+/// Fails at a path where there is a reason for it.
+fn unless_at(why: Option<(&'static str, ErrorKind)>, path: &str) -> io::Result<()> {
+    match why {
+        Some((front, why)) if path.starts_with(front) => Err(io::Error::from(why)),
+        _ => Ok(()),
+    }
+}
 
 /// Fails where there is a reason.
 fn unless(why: Option<ErrorKind>) -> io::Result<()> {
@@ -120,6 +131,7 @@ pub struct Disk<'a> {
     new_files: NewFiles,
     made: RefCell<Vec<InputFile>>,
     passed: RefCell<u64>,
+    interrupted: RefCell<bool>,
     journal: RefCell<String>,
 }
 
@@ -132,6 +144,7 @@ impl<'a> Disk<'a> {
             new_files,
             made: RefCell::new(Vec::new(alloc)),
             passed: RefCell::new(0),
+            interrupted: RefCell::new(false),
             journal: RefCell::new(String::new(alloc)),
         }
     }
@@ -176,13 +189,16 @@ impl<'a> Disk<'a> {
         found.ok_or(io::Error::from(ErrorKind::NotFound))
     }
 
-    /// Opens what is at a path to write it, or makes it, and answers its number.
-    fn make(&self, path: &str) -> io::Result<usize> {
-        self.note("write", path)?;
-        match self.find(path)?.map(|file| file.kind) {
-            Some(Kind::Folder) => Err(io::Error::from(ErrorKind::IsADirectory)),
-            Some(Kind::Dangling) => Err(io::Error::from(ErrorKind::NotFound)),
-            _ => self.add(path),
+    /// Opens what is at a path to write it as it is.
+    fn open_there(&self, deed: &str, path: &str) -> io::Result<Handle<'a>> {
+        self.note(deed, path)?;
+        let found = self.find(path)?;
+        let file = found.ok_or(io::Error::from(ErrorKind::NotFound))?;
+        match file.kind {
+            Kind::Folder => Err(io::Error::from(ErrorKind::IsADirectory)),
+            Kind::Dangling => Err(io::Error::from(ErrorKind::NotFound)),
+            Kind::Regular => Ok(Handle::Read(file, 0)),
+            Kind::Device | Kind::Link => Ok(Handle::Made(self.add(path)?, 0, file.kind)),
         }
     }
 
@@ -192,7 +208,7 @@ impl<'a> Disk<'a> {
         if self.find(path)?.is_some() || self.is_made(path)? {
             return Err(io::Error::from(ErrorKind::AlreadyExists));
         }
-        unless(self.new_files.locked)?;
+        unless_at(self.new_files.locked, path)?;
         self.add(path)
     }
 
@@ -213,11 +229,29 @@ impl<'a> Disk<'a> {
         Ok(number)
     }
 
+    /// The offset from which on a new file can't be written, and why.
+    fn torn_at(&self, path: &str) -> Option<(usize, ErrorKind)> {
+        match self.new_files.torn {
+            Some((front, place, why)) if path.starts_with(front) => Some((place, why)),
+            _ => None,
+        }
+    }
+
+    /// Interrupts every other write, where writes are interrupted.
+    fn interrupt(&self) -> io::Result<()> {
+        if !self.new_files.interrupts {
+            return Ok(());
+        }
+        let mut interrupted = self.interrupted.try_borrow_mut()?;
+        *interrupted = !*interrupted;
+        unless(interrupted.then_some(ErrorKind::Interrupted))
+    }
+
     /// How many bytes a write takes of some that come at an offset of a file.
     fn room(&self, path: &str, place: usize, count: usize) -> io::Result<usize> {
         let (step, torn) = match self.find(path)? {
             Some(file) => (file.step, file.torn),
-            None => (self.new_files.step, self.new_files.torn),
+            None => (self.new_files.step, self.torn_at(path)),
         };
         let count = count.min(step);
         match torn {
@@ -231,6 +265,7 @@ impl<'a> Disk<'a> {
     fn put(&self, number: usize, place: usize, bytes: &[u8]) -> io::Result<usize>
         ensures { IfOk result (λ n. n ≤ length bytes.now) }
     {
+        self.interrupt()?;
         let mut made = self.made.try_borrow_mut()?;
         let Some(file) = made.get_mut(number) else {
             return Err(io::Error::from(ErrorKind::NotFound));
@@ -276,12 +311,7 @@ impl<'a> Disk<'a> {
     fn name(&self, from: &str, to: &str) -> io::Result<()> {
         let line = format!(in self.alloc; "{from} to {to}")?;
         self.note("rename", &line)?;
-        if let Some((number, why)) = self.new_files.bound {
-            let name = format!(in self.alloc; ".ld-{number}")?;
-            if name.as_str() == from {
-                return Err(io::Error::from(why));
-            }
-        }
+        unless_at(self.new_files.bound, to)?;
         let file = self.take(from)?;
         let _ = self.take(to);
         let mut made = self.made.try_borrow_mut()?;
@@ -307,11 +337,11 @@ impl<'a> Disk<'a> {
     }
 }
 
-/// An open file: one that is read, or one that was made, by its number, and the offset that it has come to.
+/// An open file: one that is there, or one that was made, by its number, and the offset that it has come to.
 #[derive(Clone, Copy)]
 enum Handle<'a> {
     Read(&'a StoredFile<'a>, usize),
-    Made(usize, usize),
+    Made(usize, usize, Kind),
 }
 
 /// An open file of a disk.
@@ -338,9 +368,9 @@ impl Write for OpenedFile<'_> {
     fn write(&mut self, buf: &[u8]) -> io::Result<usize> {
         match self.handle {
             Handle::Read(file, _) => self.disk.refuse("write", file.path),
-            Handle::Made(number, place) => {
+            Handle::Made(number, place, kind) => {
                 let count = self.disk.put(number, place, buf)?;
-                self.handle = Handle::Made(number, place.saturating_add(count));
+                self.handle = Handle::Made(number, place.saturating_add(count), kind);
                 Ok(count)
             }
         }
@@ -353,7 +383,7 @@ impl Write for OpenedFile<'_> {
 
 impl Seek for OpenedFile<'_> {
     fn seek(&mut self, to: SeekFrom) -> io::Result<u64> {
-        let Handle::Made(number, place) = self.handle else {
+        let Handle::Made(number, place, kind) = self.handle else {
             return self.disk.refuse("seek", "");
         };
         let SeekFrom::Current(count) = to else {
@@ -364,7 +394,7 @@ impl Seek for OpenedFile<'_> {
         };
         self.disk.pass(count)?;
         let place = place.saturating_add(count as usize);
-        self.handle = Handle::Made(number, place);
+        self.handle = Handle::Made(number, place, kind);
         Ok(place as u64)
     }
 }
@@ -373,14 +403,16 @@ impl OpenFile for OpenedFile<'_> {
     fn metadata(&self) -> io::Result<Metadata> {
         match self.handle {
             Handle::Read(file, _) => Ok(Metadata::of_file(file.told)),
-            Handle::Made(_, _) => Ok(Metadata::of_file(0)),
+            // No metadata of a device can be made; these are of no regular file either.
+            Handle::Made(_, _, Kind::Device) => Ok(Metadata::of_symlink(0)),
+            Handle::Made(_, _, _) => Ok(Metadata::of_file(0)),
         }
     }
 
     fn set_len(&self, size: u64) -> io::Result<()> {
         match self.handle {
             Handle::Read(file, _) => self.disk.refuse("length", file.path),
-            Handle::Made(number, _) => self.disk.set_length(number, size),
+            Handle::Made(number, _, _) => self.disk.set_length(number, size),
         }
     }
 
@@ -399,11 +431,12 @@ impl OpenFile for OpenedFile<'_> {
 }
 
 /// The system that a run has: a disk, and the words of the command line, the program's name among
-/// them. It has no random bytes.
+/// them. Each random byte that it gives is the same, and it may give none.
 #[derive(Clone, Copy)]
 pub struct Machine<'a> {
     pub disk: &'a Disk<'a>,
     pub words: &'a [&'a [u8]],
+    pub random: Option<u8>,
 }
 
 impl Alloc for Machine<'_> {
@@ -415,8 +448,11 @@ impl Alloc for Machine<'_> {
 }
 
 impl RandomSource for Machine<'_> {
-    fn fill_bytes(&self, _buf: &mut [u8]) -> io::Result<()> {
-        Err(io::Error::from(ErrorKind::Unsupported))
+    fn fill_bytes(&self, buf: &mut [u8]) -> io::Result<()> {
+        match self.random {
+            Some(byte) => Ok(buf.fill(byte)),
+            None => Err(io::Error::from(ErrorKind::Unsupported)),
+        }
     }
 }
 
@@ -445,9 +481,13 @@ impl<'a> Files for Machine<'a> {
     fn open_file(&self, how: &OpenOptions, path: &str) -> io::Result<OpenedFile<'a>> {
         how.check()?;
         let handle = if how.asks_create_new() {
-            Handle::Made(self.disk.make_new(path)?, 0)
+            Handle::Made(self.disk.make_new(path)?, 0, Kind::Regular)
+        } else if how.asks_create() || how.asks_truncate() {
+            return self.disk.refuse("cut", path);
+        } else if how.asks_append() {
+            self.disk.open_there("append", path)?
         } else if how.asks_write() {
-            Handle::Made(self.disk.make(path)?, 0)
+            self.disk.open_there("open", path)?
         } else {
             Handle::Read(self.disk.open(path)?, 0)
         };

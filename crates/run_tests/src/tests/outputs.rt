@@ -1,7 +1,7 @@
 //! What a run makes, and in which order: a new file beside each path, which gets its name at the
 //! end; and what is there after a fault.
 use crate::tests::machine::{Kind, NewFiles, SOUND, StoredFile};
-use crate::tests::runs::{run_line_with, spelled};
+use crate::tests::runs::run_line_with;
 use link_samples::vectors::OBJECT;
 use std::alloc::Global;
 use std::io::ErrorKind;
@@ -15,27 +15,75 @@ fn stored<'a>(path: &'a str, kind: Kind) -> StoredFile<'a> {
     }
 }
 
-/// None is made.
+/// The folder takes no new file.
 const LOCKED: NewFiles = NewFiles {
-    locked: Some(ErrorKind::PermissionDenied),
+    locked: Some(("", ErrorKind::PermissionDenied)),
+    ..SOUND
+};
+
+/// There is no room for a new file.
+const CROWDED: NewFiles = NewFiles {
+    locked: Some(("", ErrorKind::StorageFull)),
+    ..SOUND
+};
+
+/// There is no memory for one.
+const POOR: NewFiles = NewFiles {
+    locked: Some(("", ErrorKind::OutOfMemory)),
+    ..SOUND
+};
+
+/// There is no memory for that of the map.
+const MAP_POOR: NewFiles = NewFiles {
+    locked: Some((".a.map", ErrorKind::OutOfMemory)),
+    ..SOUND
+};
+
+/// There is no folder `no`.
+const NO_FOLDER: NewFiles = NewFiles {
+    locked: Some(("no/", ErrorKind::NotFound)),
     ..SOUND
 };
 
 /// The disk is full in the middle of the image.
 const TORN: NewFiles = NewFiles {
-    torn: Some((100, ErrorKind::StorageFull)),
+    torn: Some((".a.out", 100, ErrorKind::StorageFull)),
+    ..SOUND
+};
+
+/// The disk is full in the middle of the map.
+const MAP_TORN: NewFiles = NewFiles {
+    torn: Some((".a.map", 10, ErrorKind::StorageFull)),
     ..SOUND
 };
 
 /// What is at the image's path can't be replaced.
 const IMAGE_TAKEN: NewFiles = NewFiles {
-    bound: Some((0, ErrorKind::IsADirectory)),
+    bound: Some(("a.out", ErrorKind::IsADirectory)),
     ..SOUND
 };
 
 /// What is at the map's path can't be replaced.
 const MAP_TAKEN: NewFiles = NewFiles {
-    bound: Some((1, ErrorKind::IsADirectory)),
+    bound: Some(("a.map", ErrorKind::IsADirectory)),
+    ..SOUND
+};
+
+/// The same, for want of memory.
+const IMAGE_POOR: NewFiles = NewFiles {
+    bound: Some(("a.out", ErrorKind::OutOfMemory)),
+    ..SOUND
+};
+
+/// Something is at the image's path that nothing can replace, and that isn't what was there before.
+const IMAGE_HELD: NewFiles = NewFiles {
+    bound: Some(("a.out", ErrorKind::ResourceBusy)),
+    ..SOUND
+};
+
+/// Every other write is interrupted.
+const INTERRUPTED: NewFiles = NewFiles {
+    interrupts: true,
     ..SOUND
 };
 
@@ -43,121 +91,172 @@ const MAP_TAKEN: NewFiles = NewFiles {
 const SLOW: NewFiles = NewFiles { step: 1, ..SOUND };
 
 /// Lines, how new files answer, all that comes of a run but the bytes of files, and the paths of
-/// what it leaves. The name of a new file begins with `NEW`.
-static ROWS: [(&str, NewFiles, &str, &str); 22] = [
+/// what it leaves.
+static ROWS: [(&str, NewFiles, &str, &str); 31] = [
     // The old image and the old map are replaced once both new ones are whole.
     (
         "-s a.o",
         SLOW,
-        "stat a.out\nread a.o\nstat a.out\nnew NEW0\nmode 100755\nrename NEW0 to a.out\nout: \nerr: \nstatus 0",
+        "stat a.out\nread a.o\nopen a.out\nnew .a.out.ld-0\nmode 100755\nrename .a.out.ld-0 to a.out\nout: \nerr: \nstatus 0",
+        "a.out ",
+    ),
+    (
+        "-s a.o",
+        INTERRUPTED,
+        "stat a.out\nread a.o\nopen a.out\nnew .a.out.ld-0\nmode 100755\nrename .a.out.ld-0 to a.out\nout: \nerr: \nstatus 0",
         "a.out ",
     ),
     (
         "-s a.o -Map=a.map",
         SOUND,
-        "stat a.out\nstat a.map\nread a.o\nstat a.out\nnew NEW0\nmode 100755\nstat a.map\nnew NEW0\nnew NEW1\nrename NEW0 to a.out\nrename NEW1 to a.map\nout: \nerr: \nstatus 0",
+        "stat a.out\nstat a.map\nread a.o\nopen a.out\nnew .a.out.ld-0\nmode 100755\nopen a.map\nnew .a.map.ld-0\nrename .a.out.ld-0 to a.out\nrename .a.map.ld-0 to a.map\nout: \nerr: \nstatus 0",
         "a.out a.map ",
     ),
     (
         "-s a.o -o both -Map=both",
         SOUND,
-        "stat both\nstat both\nread a.o\nstat both\nnew NEW0\nmode 100755\nstat both\nnew NEW0\nnew NEW1\nrename NEW0 to both\nrename NEW1 to both\nout: \nerr: \nstatus 0",
+        "stat both\nstat both\nread a.o\nopen both\nnew .both.ld-0\nmode 100755\nopen both\nnew .both.ld-0\nnew .both.ld-1\nrename .both.ld-0 to both\nrename .both.ld-1 to both\nout: \nerr: \nstatus 0",
         "both ",
     ),
     // A new file is in the folder of its path.
     (
         "-s a.o -o bin/start",
         SOUND,
-        "stat bin/start\nread a.o\nstat bin/start\nnew bin/NEW0\nmode 100755\nrename bin/NEW0 to bin/start\nout: \nerr: \nstatus 0",
+        "stat bin/start\nread a.o\nopen bin/start\nnew bin/.start.ld-0\nmode 100755\nrename bin/.start.ld-0 to bin/start\nout: \nerr: \nstatus 0",
         "bin/start ",
     ),
     (
         "-s a.o -o /start",
         SOUND,
-        "stat /start\nread a.o\nstat /start\nnew /NEW0\nmode 100755\nrename /NEW0 to /start\nout: \nerr: \nstatus 0",
+        "stat /start\nread a.o\nopen /start\nnew /.start.ld-0\nmode 100755\nrename /.start.ld-0 to /start\nout: \nerr: \nstatus 0",
         "/start ",
     ),
     (
         "-s a.o -o /dev/shm/start",
         SOUND,
-        "stat /dev/shm/start\nread a.o\nstat /dev/shm/start\nlink /dev/shm/start\nnew /dev/shm/NEW0\nmode 100755\nrename /dev/shm/NEW0 to /dev/shm/start\nout: \nerr: \nstatus 0",
+        "stat /dev/shm/start\nread a.o\nlink /dev/shm/start\nopen /dev/shm/start\nnew /dev/shm/.start.ld-0\nmode 100755\nrename /dev/shm/.start.ld-0 to /dev/shm/start\nout: \nerr: \nstatus 0",
         "/dev/shm/start ",
     ),
     // A name that something has is left alone.
     (
         "-s a.o -o full/start",
         SOUND,
-        "stat full/start\nread a.o\nstat full/start\nnew full/NEW0\nnew full/NEW1\nmode 100755\nrename full/NEW1 to full/start\nout: \nerr: \nstatus 0",
+        "stat full/start\nread a.o\nopen full/start\nnew full/.start.ld-0\nnew full/.start.ld-1\nmode 100755\nrename full/.start.ld-1 to full/start\nout: \nerr: \nstatus 0",
         "full/start ",
     ),
     // After a fault nothing new is left, and what was there is.
     (
         "-s a.o -Map=a.map",
+        CROWDED,
+        "stat a.out\nstat a.map\nread a.o\nopen a.out\nnew .a.out.ld-0\nout: \nerr: ld: cannot write a.out\n\nstatus 3",
+        "",
+    ),
+    (
+        "-s a.o -Map=a.map",
+        POOR,
+        "stat a.out\nstat a.map\nread a.o\nopen a.out\nnew .a.out.ld-0\nout: \nerr: ld: Memory (1)\n\nstatus 4",
+        "",
+    ),
+    // A file whose folder takes no new one would be written as it is, but this one has no number by which it is known again.
+    (
+        "-s a.o -Map=a.map",
         LOCKED,
-        "stat a.out\nstat a.map\nread a.o\nstat a.out\nnew NEW0\nout: \nerr: ld: cannot write a.out\n\nstatus 3",
+        "stat a.out\nstat a.map\nread a.o\nopen a.out\nnew .a.out.ld-0\nopen a.out\nout: \nerr: ld: cannot write a.out\n\nstatus 3",
         "",
     ),
     (
         "-s a.o -Map=a.map",
         TORN,
-        "stat a.out\nstat a.map\nread a.o\nstat a.out\nnew NEW0\nremove NEW0\nout: \nerr: ld: cannot write a.out\n\nstatus 3",
+        "stat a.out\nstat a.map\nread a.o\nopen a.out\nnew .a.out.ld-0\nremove .a.out.ld-0\nout: \nerr: ld: cannot write a.out\n\nstatus 3",
         "",
     ),
     (
         "-s a.o",
         IMAGE_TAKEN,
-        "stat a.out\nread a.o\nstat a.out\nnew NEW0\nmode 100755\nrename NEW0 to a.out\nremove NEW0\nout: \nerr: ld: cannot write a.out\n\nstatus 3",
+        "stat a.out\nread a.o\nopen a.out\nnew .a.out.ld-0\nmode 100755\nrename .a.out.ld-0 to a.out\nremove .a.out.ld-0\nout: \nerr: ld: cannot write a.out\n\nstatus 3",
         "",
     ),
     (
         "-s a.o -Map=a.map",
         IMAGE_TAKEN,
-        "stat a.out\nstat a.map\nread a.o\nstat a.out\nnew NEW0\nmode 100755\nstat a.map\nnew NEW0\nnew NEW1\nrename NEW0 to a.out\nremove NEW0\nremove NEW1\nout: \nerr: ld: cannot write a.out\n\nstatus 3",
+        "stat a.out\nstat a.map\nread a.o\nopen a.out\nnew .a.out.ld-0\nmode 100755\nopen a.map\nnew .a.map.ld-0\nrename .a.out.ld-0 to a.out\nremove .a.out.ld-0\nremove .a.map.ld-0\nout: \nerr: ld: cannot write a.out\n\nstatus 3",
         "",
     ),
-    // Only where the map can't get its name, the image has got its own.
+    (
+        "-s a.o",
+        IMAGE_POOR,
+        "stat a.out\nread a.o\nopen a.out\nnew .a.out.ld-0\nmode 100755\nrename .a.out.ld-0 to a.out\nremove .a.out.ld-0\nout: \nerr: ld: Memory (1)\n\nstatus 4",
+        "",
+    ),
+    // The same of a file that nothing can replace.
+    (
+        "-s a.o",
+        IMAGE_HELD,
+        "stat a.out\nread a.o\nopen a.out\nnew .a.out.ld-0\nmode 100755\nrename .a.out.ld-0 to a.out\nread .a.out.ld-0\nremove .a.out.ld-0\nout: \nerr: ld: cannot write a.out\n\nstatus 3",
+        "",
+    ),
+    // Where memory is refused for the map there is no image either.
+    (
+        "-s a.o -Map=a.map",
+        MAP_POOR,
+        "stat a.out\nstat a.map\nread a.o\nopen a.out\nnew .a.out.ld-0\nmode 100755\nopen a.map\nnew .a.map.ld-0\nremove .a.out.ld-0\nout: \nerr: ld: Memory (1)\n\nstatus 4",
+        "",
+    ),
+    // Where the map can't be written or get its name for another reason, the image has got its own.
+    (
+        "-s a.o -Map=a.map",
+        MAP_TORN,
+        "stat a.out\nstat a.map\nread a.o\nopen a.out\nnew .a.out.ld-0\nmode 100755\nopen a.map\nnew .a.map.ld-0\nremove .a.map.ld-0\nrename .a.out.ld-0 to a.out\nout: \nerr: ld: cannot write a.map\n\nstatus 3",
+        "a.out ",
+    ),
+    (
+        "-s a.o -Map=no/m.map",
+        NO_FOLDER,
+        "stat a.out\nstat no/m.map\nread a.o\nopen a.out\nnew .a.out.ld-0\nmode 100755\nopen no/m.map\nnew no/.m.map.ld-0\nrename .a.out.ld-0 to a.out\nout: \nerr: ld: cannot write no/m.map\n\nstatus 3",
+        "a.out ",
+    ),
     (
         "-s a.o -Map=a.map",
         MAP_TAKEN,
-        "stat a.out\nstat a.map\nread a.o\nstat a.out\nnew NEW0\nmode 100755\nstat a.map\nnew NEW0\nnew NEW1\nrename NEW0 to a.out\nrename NEW1 to a.map\nremove NEW1\nout: \nerr: ld: cannot write a.map\n\nstatus 3",
+        "stat a.out\nstat a.map\nread a.o\nopen a.out\nnew .a.out.ld-0\nmode 100755\nopen a.map\nnew .a.map.ld-0\nrename .a.out.ld-0 to a.out\nrename .a.map.ld-0 to a.map\nremove .a.map.ld-0\nout: \nerr: ld: cannot write a.map\n\nstatus 3",
         "a.out ",
     ),
     // What is no regular file is written as it is, and has its mode.
     (
         "-s a.o -o null -Map=a.map",
         SOUND,
-        "stat null\nstat a.map\nread a.o\nstat null\nwrite null\nstat a.map\nnew NEW0\nrename NEW0 to a.map\nout: \nerr: \nstatus 0",
+        "stat null\nstat a.map\nread a.o\nopen null\nopen a.map\nnew .a.map.ld-0\nrename .a.map.ld-0 to a.map\nout: \nerr: \nstatus 0",
         "null a.map ",
     ),
     (
         "-s a.o -Map=/dev/stdout",
         SOUND,
-        "stat a.out\nstat /dev/stdout\nread a.o\nstat a.out\nnew NEW0\nmode 100755\nstat /dev/stdout\nlink /dev/stdout\nwrite /dev/stdout\nrename NEW0 to a.out\nout: \nerr: \nstatus 0",
+        "stat a.out\nstat /dev/stdout\nread a.o\nopen a.out\nnew .a.out.ld-0\nmode 100755\nlink /dev/stdout\nappend /dev/stdout\nrename .a.out.ld-0 to a.out\nout: \nerr: \nstatus 0",
         "/dev/stdout a.out ",
     ),
     (
         "-s a.o -o /dev/fd/9",
         SOUND,
-        "stat /dev/fd/9\nread a.o\nstat /dev/fd/9\nlink /dev/fd/9\nwrite /dev/fd/9\nout: \nerr: ld: cannot write /dev/fd/9\n\nstatus 3",
+        "stat /dev/fd/9\nread a.o\nlink /dev/fd/9\nappend /dev/fd/9\nout: \nerr: ld: cannot write /dev/fd/9\n\nstatus 3",
         "",
     ),
     (
         "-s a.o -o drained",
         SOUND,
-        "stat drained\nread a.o\nstat drained\nwrite drained\nout: \nerr: ld: cannot write drained\n\nstatus 3",
+        "stat drained\nread a.o\nopen drained\nout: \nerr: ld: cannot write drained\n\nstatus 3",
         "drained ",
     ),
     (
         "-s a.o -Map=drained",
         SOUND,
-        "stat a.out\nstat drained\nread a.o\nstat a.out\nnew NEW0\nmode 100755\nstat drained\nwrite drained\nremove NEW0\nout: \nerr: ld: cannot write drained\n\nstatus 3",
-        "drained ",
+        "stat a.out\nstat drained\nread a.o\nopen a.out\nnew .a.out.ld-0\nmode 100755\nopen drained\nrename .a.out.ld-0 to a.out\nout: \nerr: ld: cannot write drained\n\nstatus 3",
+        "drained a.out ",
     ),
     (
         "-s a.o -Map=folder",
         SOUND,
-        "stat a.out\nstat folder\nread a.o\nstat a.out\nnew NEW0\nmode 100755\nstat folder\nwrite folder\nremove NEW0\nout: \nerr: ld: cannot write folder\n\nstatus 3",
-        "",
+        "stat a.out\nstat folder\nread a.o\nopen a.out\nnew .a.out.ld-0\nmode 100755\nopen folder\nrename .a.out.ld-0 to a.out\nout: \nerr: ld: cannot write folder\n\nstatus 3",
+        "a.out ",
     ),
     // An input is no output. A link that is refused for that makes nothing, whatever else is wrong
     // with it.
@@ -165,6 +264,13 @@ static ROWS: [(&str, NewFiles, &str, &str); 22] = [
         "-s a.o -o a.o",
         SOUND,
         "stat a.o\nread a.o\nout: \nerr: ld: cannot write a.o\n\nstatus 3",
+        "",
+    ),
+    // Also where other files are read before and after it.
+    (
+        "-s b.o a.o c.o -o a.o",
+        SOUND,
+        "stat a.o\nread b.o\nread a.o\nread c.o\nout: \nerr: ld: cannot write a.o\n\nstatus 3",
         "",
     ),
     (
@@ -192,13 +298,14 @@ static ROWS: [(&str, NewFiles, &str, &str); 22] = [
 /// What comes of a line: all but the bytes of files, and the paths of the files that were made and
 /// are left.
 fn outcome(alloc: Global, line: &str, new_files: NewFiles) -> Result<(String, String), Fail> {
-    let taken = spelled(alloc, "full/NEW0")?;
     let stored = [
         StoredFile::sound("a.o", &OBJECT),
+        StoredFile::sound("b.o", &OBJECT),
+        StoredFile::sound("c.o", &OBJECT),
         stored("a.out", Kind::Regular),
         stored("a.map", Kind::Regular),
         stored("/dev/shm/start", Kind::Regular),
-        stored(&taken, Kind::Regular),
+        stored("full/.start.ld-0", Kind::Regular),
         stored("null", Kind::Device),
         stored("folder", Kind::Folder),
         stored("/dev/stdout", Kind::Link),
@@ -221,7 +328,7 @@ fn outcome(alloc: Global, line: &str, new_files: NewFiles) -> Result<(String, St
 fn outputs_are_whole_or_not_there(rt: HostRuntime) -> Result<(), Fail> {
     for (line, new_files, wanted, left) in &ROWS {
         let (told, paths) = outcome(rt.alloc(), line, *new_files)?;
-        assert_eq!(rt; told, spelled(rt.alloc(), wanted)?);
+        assert_eq!(rt; told.as_str(), *wanted, "{line}");
         assert_eq!(rt; paths.as_str(), *left, "{line}");
     }
     Ok(())

@@ -1,12 +1,13 @@
 //! The program on the files of the system: which are replaced, which are written as they are, and
 //! which are refused.
+use file_io::{OutputPath, file_id, make_executable, overwritten};
 use ld_main::run_ld;
 use link_samples::objects::{Section, relocatable};
 use link_samples::one_object::words_of;
 use link_samples::parts::{DATA, START, TEXT};
 use link_samples::vectors::{OBJECT, image};
 use std::fs;
-use std::fs::Permissions;
+use std::fs::{File, Permissions};
 use std::os::unix::fs::{FileTypeExt, MetadataExt, PermissionsExt, symlink};
 use std::random::RandomSource;
 use std::rt::Files;
@@ -37,7 +38,12 @@ fn holds<R: Files + AllocGlobal>(rt: &R, path: &str, bytes: &[u8]) -> Result<boo
 
 /// Lines by which an input would be written: by its own name, by another spelling of its path, by a
 /// second link, by a symbolic link; as the image and as the map.
-static INPUTS: [(&str, &str); 6] = [
+static INPUTS: [(&str, &str); 8] = [
+    ("in_files/a.o in_files/b.o -o in_files/a.o", "in_files/a.o"),
+    (
+        "in_files/b.o in_files/a.o -o in_files/start -Map=in_files/second.o",
+        "in_files/second.o",
+    ),
     ("in_files/a.o -o in_files/a.o", "in_files/a.o"),
     ("in_files/a.o -o ./in_files/a.o", "./in_files/a.o"),
     ("in_files/a.o -o in_files/second.o", "in_files/second.o"),
@@ -52,6 +58,7 @@ static INPUTS: [(&str, &str); 6] = [
 #[test]
 fn an_input_is_no_output(rt: HostRuntime) -> Result<(), Fail> {
     prepare(&rt, "in_files", &OBJECT)?;
+    fs::write(&rt, "in_files/b.o", OBJECT.as_slice())?;
     fs::hard_link(&rt, "in_files/a.o", "in_files/second.o")?;
     symlink(&rt, "a.o", "in_files/symbolic.o")?;
     for (line, path) in &INPUTS {
@@ -156,5 +163,77 @@ fn pages_of_zeros_take_no_room(rt: HostRuntime) -> Result<(), Fail> {
     assert_eq!(rt; metadata.len(), 0x20_0008);
     assert!(rt; metadata.blocks() < 256);
     fs::remove_dir_all(&rt, "far_files")?;
+    Ok(())
+}
+
+#[test]
+fn an_image_is_whole_where_its_map_is_not(rt: HostRuntime) -> Result<(), Fail> {
+    prepare(&rt, "map_files", &OBJECT)?;
+    let image = image(rt.alloc())?;
+    for map in &["map_files/no/m.map", "map_files/folder", "/dev/full"] {
+        let _ = fs::create_dir(&rt, "map_files/folder");
+        let line = format!(in rt.alloc(); "-s map_files/a.o -o map_files/start -Map={map}")?;
+        let (status, err) = run(&rt, &line)?;
+        assert_eq!(rt; status, 3, "{line}");
+        assert_eq!(rt; err, format!(in rt.alloc(); "ld: cannot write {map}\n")?);
+        assert!(rt; holds(&rt, "map_files/start", &image)?, "{line}");
+        fs::remove_file(&rt, "map_files/start")?;
+    }
+    fs::remove_dir_all(&rt, "map_files")?;
+    Ok(())
+}
+
+#[test]
+fn a_file_is_written_as_it_is_where_its_folder_takes_no_other(rt: HostRuntime) -> Result<(), Fail> {
+    prepare(&rt, "held_files", &OBJECT)?;
+    let image = image(rt.alloc())?;
+    fs::create_dir(&rt, "held_files/out")?;
+    fs::write(&rt, "held_files/out/start", [1; 9000].as_slice())?;
+    fs::write(&rt, "held_files/out/a.o", OBJECT.as_slice())?;
+    fs::set_permissions(&rt, "held_files/out", Permissions::from_mode(0o555))?;
+    let (status, err) = run(&rt, "-s held_files/a.o -o held_files/out/start")?;
+    assert_eq!(rt; status, 0, "{err}");
+    assert!(rt; holds(&rt, "held_files/out/start", &image)?);
+    assert!(rt; fs::metadata(&rt, "held_files/out/start")?.mode() & 0o100 != 0);
+    let (status, _) = run(&rt, "held_files/out/a.o -o held_files/out/a.o")?;
+    assert_eq!(rt; status, 3);
+    assert!(rt; holds(&rt, "held_files/out/a.o", &OBJECT)?);
+    fs::set_permissions(&rt, "held_files/out", Permissions::from_mode(0o755))?;
+    fs::remove_dir_all(&rt, "held_files")?;
+    Ok(())
+}
+
+/// Modes of a new file, and those that it gets: those may run it who may read it.
+static MODES: [(u32, u32); 4] = [
+    (0o600, 0o700),
+    (0o640, 0o750),
+    (0o644, 0o755),
+    (0o604, 0o705),
+];
+
+#[test]
+fn those_may_run_an_image_who_may_read_it(rt: HostRuntime) -> Result<(), Fail> {
+    for (before, after) in &MODES {
+        let file = File::create(&rt, "mode_file")?;
+        fs::set_permissions(&rt, "mode_file", Permissions::from_mode(*before))?;
+        make_executable(&file)?;
+        assert_eq!(rt; fs::metadata(&rt, "mode_file")?.mode() & 0o777, *after);
+        fs::remove_file(&rt, "mode_file")?;
+    }
+    Ok(())
+}
+
+/// Folders on file systems of their own, each of which has the number 1 there.
+static ROOTS: [&str; 2] = ["/proc", "/sys"];
+
+#[test]
+fn files_of_two_devices_are_told_apart(rt: HostRuntime) -> Result<(), Fail> {
+    let [one, other] = ROOTS;
+    let first = fs::metadata(&rt, one)?;
+    let second = fs::metadata(&rt, other)?;
+    assert_eq!(rt; first.ino(), second.ino());
+    let outputs = [OutputPath::new(&rt, one)];
+    assert!(rt; overwritten(&outputs, other, file_id(&second)).is_none());
+    assert!(rt; overwritten(&outputs, other, file_id(&first)) == Some(one));
     Ok(())
 }

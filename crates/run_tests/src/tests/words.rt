@@ -1,6 +1,6 @@
 //! The words that the system hands to the program.
 use crate::tests::machine::{SOUND, StoredFile};
-use crate::tests::runs::{run, spelled};
+use crate::tests::runs::run;
 use link_samples::vectors::OBJECT;
 use std::test::Fail;
 
@@ -26,7 +26,7 @@ static ROWS: [(&[&[u8]], &str); 7] = [
     (&[], "out: \nerr: ld: Command (2): NoInput (6)\n\nstatus 2"),
     (
         &[LD, b"-s", b"a.o"],
-        "stat a.out\nread a.o\nstat a.out\nnew NEW0\nmode 100755\nrename NEW0 to a.out\nout: \nerr: \nstatus 0",
+        "stat a.out\nread a.o\nopen a.out\nnew .a.out.ld-0\nmode 100755\nrename .a.out.ld-0 to a.out\nout: \nerr: \nstatus 0",
     ),
     // An empty word is an option's value, or the path of no file.
     (
@@ -49,7 +49,7 @@ fn words_stand_behind_the_programs_name(rt: HostRuntime) -> Result<(), Fail> {
     let stored = [StoredFile::sound("a.o", &OBJECT)];
     for (words, wanted) in &ROWS {
         let told = run(rt.alloc(), &stored, SOUND, words)?.told;
-        assert_eq!(rt; told, spelled(rt.alloc(), wanted)?);
+        assert_eq!(rt; told.as_str(), *wanted);
     }
     Ok(())
 }
@@ -60,8 +60,8 @@ fn a_long_word_is_read_whole(rt: HostRuntime) -> Result<(), Fail> {
     let words = [LD, b"-s", LONG.as_bytes()];
     let told = run(rt.alloc(), &stored, SOUND, &words)?.told;
     let wanted = format!(in rt.alloc();
-        "stat a.out\nread {LONG}\nstat a.out\nnew NEW0\nmode 100755\nrename NEW0 to a.out\nout: \nerr: \nstatus 0"
+        "stat a.out\nread {LONG}\nopen a.out\nnew .a.out.ld-0\nmode 100755\nrename .a.out.ld-0 to a.out\nout: \nerr: \nstatus 0"
     )?;
-    assert_eq!(rt; told, spelled(rt.alloc(), &wanted)?);
+    assert_eq!(rt; told, wanted);
     Ok(())
 }
