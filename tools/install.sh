@@ -2,33 +2,50 @@
 # Installs the proved programs, what makes a compiler link by them, the scripts that judge other linkers' images, and the man
 # pages:
 #
-#     tools/install.sh [--uninstall] [PREFIX]
+#     tools/install.sh [--uninstall] [--prefix=PREFIX | PREFIX]
 #
 # PREFIX is an absolute path, /usr/local where none is given; before it goes $DESTDIR. There will be
 #
 #     bin/cakthuy-ld, bin/cakthuy-ld-why      the programs (ld-why, and cakthuy-ld-debug, where they are built)
-#     libexec/cakthuy                         ld and cc, so `gcc -B PREFIX/libexec/cakthuy` links by ours (docs/DRIVER.md)
+#     bin/cakthuy-cc, bin/cakthuy-cc-static   compilers that link by ours, and cakthuy-c++ and cakthuy-c++-static
+#     libexec/cakthuy                         ld, cc and so on: `gcc -B PREFIX/libexec/cakthuy` links by ours (docs/DRIVER.md)
 #     libexec/cakthuy/judge                   link.py and judge.py (docs/JUDGING.md)
 #     share/man                               the manual
 #
 # Nothing is compiled here: `rt ci`, or `rt run` in crates/ld and crates/ld_why, proves and builds the programs. With
-# --uninstall these files are removed, and folders of ours that are empty then.
+# --uninstall these files are removed, and folders of ours that are empty then. --help prints this.
 set -eu
 
 root=$(cd "$(dirname "$0")/.." && pwd)
 uninstall=no
-if [ "${1-}" = --uninstall ]; then
-    uninstall=yes
-    shift
-fi
-prefix=${1:-/usr/local}
-case $prefix in
-/*) ;;
-*)
-    echo "install.sh: PREFIX is an absolute path, and $prefix is none" >&2
+prefix=
+
+# fail TEXT: says what is wrong with the words, and ends.
+fail() {
+    echo "install.sh: $1" >&2
     exit 2
-    ;;
-esac
+}
+
+for word do
+    case $word in
+    --help | -h)
+        sed -n '2,/^set -eu/ s/^# \{0,1\}//p' "$0"
+        exit 0
+        ;;
+    --uninstall) uninstall=yes ;;
+    --prefix=* | /*)
+        [ -z "$prefix" ] || fail "$word: PREFIX is named already, $prefix"
+        prefix=${word#--prefix=}
+        case $prefix in
+        /*) ;;
+        *) fail "PREFIX is an absolute path, and $prefix is none" ;;
+        esac
+        ;;
+    -*) fail "$word is no word of this script: --help tells them" ;;
+    *) fail "PREFIX is an absolute path, and $word is none" ;;
+    esac
+done
+prefix=${prefix:-/usr/local}
 to=${DESTDIR-}$prefix
 
 # put MODE FILE PATH: installs a file, or removes what was installed.
@@ -38,6 +55,16 @@ put() {
     else
         install -d "$to/$(dirname "$3")"
         install -m "$1" "$2" "$to/$3"
+    fi
+}
+
+# link TARGET PATH: installs a symbolic link, or removes it.
+link() {
+    if [ "$uninstall" = yes ]; then
+        rm -f "$to/$2"
+    else
+        install -d "$to/$(dirname "$2")"
+        ln -sf "$1" "$to/$2"
     fi
 }
 
@@ -52,15 +79,20 @@ program() {
 }
 
 if [ "$uninstall" = no ] && [ ! -x "$root/crates/ld/out/ld" ]; then
-    echo "install.sh: there is no proved linker at $root/crates/ld/out/ld: cd crates/ld && rt run builds it" >&2
-    exit 2
+    fail "there is no proved linker at $root/crates/ld/out/ld: cd crates/ld && rt run builds it"
 fi
 program ld cakthuy-ld
 program ld_why cakthuy-ld-why
 program ld_debug cakthuy-ld-debug
 
 put 755 "$root/tools/driver/ld" libexec/cakthuy/ld
-put 755 "$root/tools/driver/cc" libexec/cakthuy/cc
+for name in cc c++ cc-static c++-static; do
+    put 755 "$root/tools/driver/$name" "libexec/cakthuy/$name"
+    link "../libexec/cakthuy/$name" "bin/cakthuy-$name"
+done
+for name in lld bfd gold mold; do
+    link ld "libexec/cakthuy/ld.$name"
+done
 commit=$(mktemp)
 trap 'rm -f "$commit"' EXIT
 git -C "$root" describe --always --dirty --exclude '*' >"$commit" 2>/dev/null || echo unknown >"$commit"
@@ -75,6 +107,9 @@ for script in "$root"/tools/judge/*.py; do
 done
 for page in "$root"/docs/man/*.[0-9]; do
     put 644 "$page" "share/man/man${page##*.}/${page##*/}"
+done
+for name in c++ cc-static c++-static; do
+    link cakthuy-cc.1 "share/man/man1/cakthuy-$name.1"
 done
 
 if [ "$uninstall" = yes ]; then

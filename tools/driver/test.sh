@@ -29,7 +29,7 @@ printf '[%s]' "$@"
 END
 chmod +x "$work/odd"
 export LD_PROGRAM="$work/print" LD_WHY=
-unset LD_CHECK LD_WORDS
+unset LD_CHECK LD_WORDS LD_OTHER LD_UNPROVED
 
 # compare WANTED TOLD: counts a case.
 compare() {
@@ -112,13 +112,41 @@ gives '[a.o]' -dynamic-linker /lib/l.so a.o -static
 gives '[a.o]' --cref -y f -yf --trace-symbol=f --print-memory-usage --no-color-diagnostics --separate-code a.o
 gives "[-L/u nits/rtl/][/u/prt0.o][p'.o][-lc][--start-group][x.a][-lgcc][--end-group][-e][_start][b.o]" -T link.res b.o
 gives '[a.o]' -b elf64-x86-64 --oformat=elf64-x86-64 a.o
+echo '{ global: f; };' >'l ist'
+gives '[a.o]' --version-script='l ist' --dynamic-list 'l ist' --retain-symbols-file='l ist' --dynamic-list-data a.o
 refuses '-b binary: all files are ELF-64 for x86-64' -b binary a.o
+
+printf 'INPUT(-o -e m.o -lx)GROUP(-s y.a)ENTRY(-s)\n' >dashes
+gives '[./-o][./-e][m.o][-lx][./-s][--start-group][y.a][--end-group][-e][-s]' -T dashes
+
+# What this script reads is not written, by whichever name.
+spares() {
+    wanted="ld: cannot write $1: it is $2, which this link reads or writes, 3"
+    shift 2
+    compare "$wanted" "$(told "$driver" "$@")"
+}
+mkdir again
+ln words again/words
+spares words words @words -o words
+spares again/words words @words -o again/words
+spares link.res link.res -T link.res -o link.res
+spares 'l ist' 'l ist' -Map='l ist' --version-script='l ist' a.o
+spares a.o a.o --dependency-file=a.o a.o
+spares again/../empty.o empty.o --dependency-file=again/../empty.o a.o empty.o
+spares 'd ir/libx y.a' 'd ir/libx y.a' --dependency-file 'd ir/libx y.a' a.o '-lx y' -L 'd ir'
+spares i i -o i --dependency-file=i a.o
+spares m m -Map=m --dependency-file=m a.o
+spares ./m m -o m -Map=./m a.o
+spares m lib/../m -o lib/../m -Map=m a.o --dependency-file=lib/../m
+gives '[-o][/dev/null][a.o][-Map=/dev/null]' -o /dev/null -Map=/dev/null a.o
 
 # Odd archives.
 retries '[a.o]' a.o empty.o
 printf '!<thin>\n' >none.a
 retries '[a.o][y.a]' a.o none.a y.a
 retries 'ld: BadObject (4): NotElf64 (3)' a.o y.a
+printf 'INPUT(a.o empty.o b.o c.o)GROUP(x.a none.a y.a)' >input
+retries '[a.o][b.o][c.o][--start-group][x.a][y.a][--end-group][d.o][e.o]' -T input d.o empty.o e.o
 rm -f refused
 line=$(LD_PROGRAM="$work/odd" "$driver" core.rlib 2>&1)
 case $line in
@@ -142,6 +170,13 @@ END
     chmod +x "$work/members"
     compare onetwo "$(LD_PROGRAM="$work/members" "$driver" thin.a)"
     compare onetwo "$(LD_PROGRAM="$work/members" "$driver" --start-lib 'thin/a 1' thin/b --end-lib)"
+    spares thin/b ./thin/b -o thin/b --start-lib 'thin/a 1' thin/b --end-lib
+    ln thin/b b
+    compare "ld: cannot write b: it is ././thin/b, which this link reads or writes, 3" \
+        "$(told LD_PROGRAM="$work/members" "$driver" -o b thin.a | sed q)"
+    mkdir ./-tmp
+    compare onetwo "$(TMPDIR=-tmp LD_PROGRAM="$work/members" "$driver" thin.a)"
+    compare '' "$(ls ./-tmp)"
     gives '[x.a][y.a]' --start-lib x.a --end-lib y.a
 
     # Names of members that `ar` would take for words, one with a newline, and one that is no file's.
@@ -156,6 +191,56 @@ END
     rm ./@names
     compare 'ld: words.a: ar can'\''t list the members of this thin archive, 2' "$(told LD_PROGRAM="$work/members" "$driver" words.a)"
     compare 'ld: lines.a: ar can'\''t list the members of this thin archive, 2' "$(told LD_PROGRAM="$work/members" "$driver" lines.a)"
+fi
+
+# Where debug data define names for other objects, copies are linked in which they don't. The linker here refuses the first
+# link, and then prints the names that its files define.
+if command -v as >/dev/null && command -v objcopy >/dev/null && command -v readelf >/dev/null; then
+    cat >naming <<'END'
+#!/bin/sh
+if [ ! -e refused ]; then
+    : >refused
+    echo 'ld: BadSymbol (21)' >&2
+    exit 1
+fi
+rm refused
+for word do
+    case $word in
+    *.[ao]) readelf -SsW "$word" | awk '/ \.gnu/ { print } $5 ~ /GLOBAL|WEAK/ { printf "%s ", $8 }' ;;
+    *) printf '%s ' "$word" ;;
+    esac
+done
+END
+    chmod +x naming
+    export LD_PROGRAM=./naming
+    rm -f refused
+    fat='linked from copies without .gnu.debuglto_*; none are needed without -g, or without -flto'
+    named='linked from copies in which names of debug data, as of fpc -g, are LOCAL; gdb knows no types of other units then'
+    printf '.globl f\nf:\n.section .debug_ranges\n.globl end, g\nend:\ng:\n.text\n.quad g\n' | as -o pascal.o -
+    printf '.section .gnu.debuglto_.debug_info\n.weak e.c.1\ne.c.1:\n.text\n.globl h\nh:\n' | as -o 'l to.o' -
+    ar qcs lib/liblto.a pascal.o 'l to.o'
+    cp pascal.o second.o
+    compare "ld: lib/liblto.a: $fat
+ld: pascal.o: $named
+f -e g -Llib f h , 0" "$(told "$driver" pascal.o -e g -Llib -llto)"
+    compare "ld: l to.o: $fat
+h , 0" "$(told "$driver" 'l to.o')"
+    compare "ld: lib/liblto.a: $fat
+f h , 0" "$(told "$driver" lib/liblto.a)"
+    compare "ld: pascal.o: $named
+ld: cannot write pascal.o: it is pascal.o, which this link reads or writes, 3" "$(told "$driver" -o pascal.o pascal.o)"
+    rm refused
+    rm -f refused
+    printf '.section .debug_info\n.globl f\nf:\n' | as -o both.o -
+    rm lib/liblto.a
+    ar qcs lib/liblto.a pascal.o both.o
+    # A name that code defines too keeps both definitions.
+    compare "ld: pascal.o and 1 more: $named
+f f , 0" "$(told "$driver" pascal.o second.o)"
+    compare "ld: lib/liblto.a: $named
+f f , 0" "$(told "$driver" lib/liblto.a)"
+    compare 'ld: BadSymbol (21), 1' "$(told "$driver" a.o)"
+    rm -f refused lib/liblto.a
 fi
 
 # A linker whose map is the file `lines`, and whose check says what the file `says` has; its image is that of -o.
@@ -182,14 +267,29 @@ export LD_PROGRAM=./checking
 echo yes >says
 compare ', 0' "$(told LD_CHECK=1 "$driver" -o image a.o)"
 compare 'checked: image, 0' "$(told LD_CHECK=say "$driver" -o image a.o)"
+compare ', 0' "$(told LD_CHECK=./checks "$driver" -o 'i
+m' a.o)"
 compare image "$(cat image)"
 compare 'ld: /dev/null was not checked: it is no regular file, 0' "$(told LD_CHECK=1 "$driver" -o /dev/null a.o)"
 echo 'no C10' >says
 compare 'ld: the check of image says: no C10, 1' "$(told LD_CHECK=1 "$driver" -o image a.o)"
 compare gone "$([ -e image ] || echo gone)"
+compare 'ld: the check of image says: no C10, 1' "$(told LD_CHECK=./checks "$driver" -o image a.o)"
+compare 'checked: i\x0am
+ld: the check of image says: no C10' "$(cat checks)"
 ln -s lib/image link
 compare 'ld: the check of link says: no C10, 1' "$(told LD_CHECK=1 "$driver" -o link a.o)"
 compare gone "$([ -e lib/image ] || echo gone)"
+
+# A name that must be defined is asked for, and looked for in the map.
+printf 'symbol 0000000000401000 strong 0 1 f\nsymbol 0000000000401000 weak 0 2 a\\x20b\n' >lines
+compare '[-u][f][a.o][-Map=lines], 0' "$(told LD_PROGRAM="$work/print" "$driver" --require-defined f -Map=lines a.o)"
+compare ', 0' "$(told "$driver" -o image --require-defined=f --require-defined='a b' --require-defined=_end a.o)"
+compare image "$(cat image)"
+compare 'ld: --require-defined=x20b: nothing that is linked defines it
+ld: --require-defined=g: nothing that is linked defines it, 1' \
+    "$(told "$driver" -o image --require-defined=x20b -require-defined g --require-defined=f a.o)"
+compare gone "$([ -e image ] || echo gone)"
 
 # What is told of a link: the map, the objects and members that are loaded, and a rule for make.
 printf 'one' >m.o
@@ -236,24 +336,54 @@ printf '#!/bin/sh\necho "ld: Undefined (10): f" >&2\nexit 1\n' >refusing
 chmod +x places refusing
 compare 'ld: Undefined (10): f
 ld: a.o: .text+0x5: -s a.o asks for f, 1' "$(told LD_WHY=./places LD_PROGRAM=./refusing "$driver" -s a.o)"
+compare 'ld: Undefined (10): f
+ld: a.o: .text+0x5: -s a.o asks for f, 1' "$(told LD_CHECK=1 LD_WHY=./places LD_PROGRAM=./refusing "$driver" -s a.o | sed 's/ -Map=[^ ]*//')"
 compare 'ld: Undefined (10): f, 1' "$(told LD_PROGRAM=./refusing "$driver" -s a.o)"
 
+# In place of a copy the file is named of which it was made.
+printf '#!/bin/sh\necho "ld: BadObject (4): NotElf64 (3)" >&2\nexit 1\n' >unreading
+chmod +x unreading
+compare 'ld: BadObject (4): NotElf64 (3)
+ld: a.o: .text+0x5: core.rlib -o a.out asks for f, 1' \
+    "$(told LD_WHY=./places LD_PROGRAM=./unreading "$driver" core.rlib -o a.out)"
 printf '#!/bin/sh\nexit 3\n' >absent
 chmod +x absent
+printf '#!/bin/sh\necho "ld: cannot write none/x"\necho "none/x: $*: no folder"\n' >unwritten
+chmod +x unwritten
+: >there.o
+compare 'ld: none/x: -o none/x there.o: no folder, 3' \
+    "$(told LD_WHY=./unwritten LD_PROGRAM=./absent "$driver" -o none/x there.o)"
 compare 'ld: -lz: no directory of -L has libz.a
 ld: b.o: there is no such file' "$(LD_PROGRAM=./absent "$driver" -o c.o says '-lx y' -lz b.o -Llib "-Ld ir" 2>&1)"
 
-refuses '-shared: no shared object is made here' -shared a.o
-refuses '-pie: the image stands at fixed addresses; give the compiler -static (with make: LDFLAGS=-static), and no -pie or -static-pie' a.o -pie
-refuses '-dynamic-linker /lib/l.so: only static images are made; give the compiler -static -no-pie' -dynamic-linker /lib/l.so a.o
+refuses '-shared: no shared object is made here; LD_OTHER names a linker that makes them' -shared a.o
+refuses '-pie: the image has fixed addresses; take cc-static as the compiler, or give it -static, and no -pie or -static-pie' a.o -pie
+refuses '-dynamic-linker /lib/l.so: only static images are made; take cc-static as the compiler, or give it -static -no-pie' -dynamic-linker /lib/l.so a.o
 refuses '-T none: there is no such file' -T none a.o
 refuses "-T names: no layout but the linker's own is made here" -T names a.o
 refuses "-T lays: no layout but the linker's own is made here" -T lays a.o
 refuses "-Ttext=0x1000: no layout but the linker's own is made here" -Ttext=0x1000 a.o
 refuses '--defsym=a=b: names mean what the objects say' --defsym=a=b a.o
 refuses '--wrap: names mean what the objects say' --wrap f a.o
-refuses '--version-script=v: no list of names is read here' --version-script=v a.o
-refuses '-r: no relocatable object is made here' -r a.o
+refuses 'v: there is no such file, a list of names' --version-script=v a.o
+refuses '-r: no relocatable object is made here; LD_OTHER names a linker that makes them' -r a.o
+refuses '-q: no relocations are kept in an image here' -q a.o
+# Another linker makes these, where one is named, and only these.
+printf '#!/bin/sh\nprintf "other: "\n[ $# -eq 0 ] || printf "[%%s]" "$@"\n' >other
+chmod +x other
+echo '-o x.so -shared' >shares
+export LD_OTHER=./other
+compare 'ld: -shared: x.so is made by ./other, and not checked
+other: [-shared][-z][execstack][-o][x.so][a b.o], 0' "$(told LD_CHECK=1 "$driver" -shared -z execstack -o x.so 'a b.o')"
+compare 'ld: -r: a.out is made by ./other, and not checked
+other: [a.o][-r], 0' "$(told "$driver" a.o -r)"
+compare 'ld: -shared: x.so is made by ./other, and not checked
+other: [@shares][a.o], 0' "$(told "$driver" @shares a.o)"
+gives '[-e][-shared][a.o]' -e -shared a.o
+refuses '-q: no relocations are kept in an image here' -q a.o
+compare 'ld: LD_OTHER: there is no linker ./none, 2' "$(told LD_OTHER=./none "$driver" -r a.o)"
+compare "ld: LD_OTHER: $driver.lld is this script, 2" "$(told LD_OTHER="$driver.lld" "$driver" -r a.o)"
+unset LD_OTHER
 refuses '-z execstack: the header of the stack is that of docs/PROFILE.md' -zexecstack a.o
 refuses '-m elf_i386: only elf_x86_64 is linked' -melf_i386 a.o
 refuses '-l:none.o: no directory of -L has this file' -l:none.o a.o
@@ -273,10 +403,43 @@ compare "$("$driver" --version)" "$("$driver" -pie --version)"
 compare "It runs $work/print, as LD_PROGRAM says: whether that is the proved linker, this script doesn't know." \
     "$("$driver" --version | sed 1d)"
 case $(told LD_PROGRAM=./none "$driver" a.o) in
-"ld: there is no linker at ./none; to get the proved one: cd crates/ld && rt run, which takes most of an hour"*", 2") compare yes yes ;;
+"ld: there is no linker at ./none; to get the proved one: cd ${driver%/tools/driver/ld}/crates/ld && rt run"*LD_UNPROVED=1", 2") compare yes yes ;;
 *) compare 'no linker' "$(told LD_PROGRAM=./none "$driver" a.o)" ;;
 esac
-compare "[-B][${driver%/ld}][-static][a.c]" "$(CC_FOR_LD=$work/print "${driver%/ld}/cc" -static a.c)"
+
+# The compilers: that which is named, or musl-gcc.
+tools=${driver%/ld}
+here="[-B][$tools]"
+bare="[-fno-exceptions][-fno-rtti][-fno-threadsafe-statics][-fno-gnu-unique]"
+compare "${here}[-static][a.c]" "$(CC_FOR_LD=$work/print "$tools/cc" -static a.c)"
+compare "[-m64]${here}[-static][a c]" "$(CC_FOR_LD="$work/print -m64" "$tools/cc-static" 'a c')"
+compare "${here}[-o][b][-shared][a.c]" "$(CC_FOR_LD=$work/print "$tools/cc-static" -o b -shared a.c)"
+compare "[-m64]${here}[-static][a c]" "$(CXX_FOR_LD="$work/print -m64" "$tools/c++-static" 'a c')"
+compare "${here}[-shared][a.c]" "$(CXX_FOR_LD=$work/print "$tools/c++-static" -shared a.c)"
+ln -s "$tools/cc-static" compiler
+compare "${here}[-static][a.c]" "$(CC_FOR_LD=$work/print ./compiler a.c)"
+mkdir path
+cp print path/musl-gcc
+compare "${here}[a.c]" "$(PATH=$work/path:$PATH "$tools/cc" a.c)"
+compare "${here}${bare}[-static][a.c]" "$(PATH=$work/path:$PATH "$tools/c++-static" a.c)"
+for name in cc c++ cc-static c++-static; do
+    compare "[--version]$("$driver" -v)" "$(PATH=$work/path:$PATH "$tools/$name" --version)"
+done
+compare ', 1' "$(told CC_FOR_LD=false "$tools/cc" --version)"
+compare 'cc: there is no ./none: in Debian musl-gcc is in musl-tools; CC_FOR_LD (C++: CXX_FOR_LD) names another compiler, 127' \
+    "$(told CC_FOR_LD='./none -m64' "$tools/cc-static" a.c)"
+# By whichever name a compiler looks for a linker, it finds this one.
+for name in lld bfd gold mold; do
+    compare "$("$driver" -v)" "$("$driver.$name" -v)"
+    for compiler in gcc clang; do
+        command -v "$compiler" >/dev/null && command -v as >/dev/null || continue
+        echo | as -o real.o -
+        case $("$compiler" -B "${driver%/ld}" "-fuse-ld=$name" -static -nostdlib real.o 2>&1) in
+        *"[real.o]") compare yes yes ;;
+        *) compare "$compiler -fuse-ld=$name by this driver" 'by another' ;;
+        esac
+    done
+done
 case $("$driver" -v) in
 *GNU*) compare yes yes ;;
 *) compare GNU "$("$driver" -v)" ;;
@@ -297,15 +460,31 @@ compare "install.sh: there is no proved linker at $work/tree/crates/ld/out/ld: c
     "$(told DESTDIR="$work/dest" tree/tools/install.sh /p)"
 cp print tree/crates/ld/out/ld
 compare ', 0' "$(told DESTDIR="$work/dest" tree/tools/install.sh /p)"
-compare 'bin/cakthuy-ld
+compare 'bin/cakthuy-c++
+bin/cakthuy-c++-static
+bin/cakthuy-cc
+bin/cakthuy-cc-static
+bin/cakthuy-ld
+libexec/cakthuy/c++
+libexec/cakthuy/c++-static
 libexec/cakthuy/cc
+libexec/cakthuy/cc-static
 libexec/cakthuy/commit
 libexec/cakthuy/ld
+libexec/cakthuy/ld.bfd
+libexec/cakthuy/ld.gold
+libexec/cakthuy/ld.lld
+libexec/cakthuy/ld.mold
+share/man/man1/cakthuy-c++-static.1
+share/man/man1/cakthuy-c++.1
+share/man/man1/cakthuy-cc-static.1
+share/man/man1/cakthuy-cc.1
 share/man/man1/cakthuy-ld-debug.1
 share/man/man1/cakthuy-ld-why.1
 share/man/man1/cakthuy-ld.1
-share/man/man5/cakthuy-map.5' "$(cd dest/p && find . -type f ! -path '*/judge/*' | sed 's,^\./,,' | LC_ALL=C sort)"
+share/man/man5/cakthuy-map.5' "$(cd dest/p && find . ! -type d ! -path '*/judge/*' | sed 's,^\./,,' | LC_ALL=C sort)"
 compare '[-s][a.o], 0' "$(told -u LD_PROGRAM dest/p/libexec/cakthuy/ld -s a.o)"
+compare '[-s][a.o], 0' "$(told -u LD_PROGRAM LD_UNPROVED=1 dest/p/libexec/cakthuy/ld -s a.o)"
 compare "It runs the proved linker, $(readlink -f dest/p/bin/cakthuy-ld)." \
     "$(env -u LD_PROGRAM dest/p/libexec/cakthuy/ld --version | sed 1d)"
 printf '#!/bin/sh\necho "for tools: $*"\n' >dest/p/bin/cakthuy-ld-debug
@@ -315,11 +494,32 @@ compare 'for tools: -S a.o, 0' "$(told -u LD_PROGRAM dest/p/libexec/cakthuy/ld -
 compare '[a.o], 0' "$(told -u LD_PROGRAM LD_PLAIN=1 dest/p/libexec/cakthuy/ld a.o)"
 compare '[a.o], 0' "$(told -u LD_PROGRAM LD_PLAIN=1 dest/p/libexec/cakthuy/ld -S a.o)"
 compare '[-s][a.o], 0' "$(told -u LD_PROGRAM dest/p/libexec/cakthuy/ld --strip-all a.o)"
+compare "[-B][$work/dest/p/libexec/cakthuy][-static][a.c], 0" "$(told CC_FOR_LD=./print dest/p/bin/cakthuy-cc-static a.c)"
+case $(CC_FOR_LD=./print dest/p/bin/cakthuy-cc --version) in
+"[--version]Cakthuy ld "*", commit $(cat dest/p/libexec/cakthuy/commit), "*) compare yes yes ;;
+*) compare 'the commit' "$(CC_FOR_LD=./print dest/p/bin/cakthuy-cc --version)" ;;
+esac
 rm dest/p/bin/cakthuy-ld dest/p/bin/cakthuy-ld-debug
 compare "ld: there is no linker at dest/p/libexec/cakthuy/../../bin/cakthuy-ld: tools/install.sh of its tree puts it there, 2" \
     "$(told -u LD_PROGRAM dest/p/libexec/cakthuy/ld a.o)"
-compare ', 0' "$(told DESTDIR="$work/dest" tree/tools/install.sh --uninstall /p)"
-compare '' "$(find dest -type f)"
+compare ', 0' "$(told DESTDIR="$work/dest" tree/tools/install.sh --prefix=/p --uninstall)"
+# The unproved programs are taken where that is asked for, and say so.
+mkdir -p tree/out/unproved
+printf '#!/bin/sh\necho "unproved: $*"\n' >tree/out/unproved/ld
+chmod +x tree/out/unproved/ld
+compare 'unproved: a.o, 0' "$(told -u LD_PROGRAM LD_UNPROVED=1 tree/tools/driver/ld a.o)"
+compare '[a.o], 0' "$(told -u LD_PROGRAM tree/tools/driver/ld a.o)"
+compare "It runs the UNPROVED linker, $(readlink -f tree/out/unproved/ld), as LD_UNPROVED says." \
+    "$(env -u LD_PROGRAM LD_UNPROVED=1 tree/tools/driver/ld --version | sed 1d)"
+compare '' "$(find dest ! -type d)"
+
+compare 'install.sh: PREFIX is an absolute path, and p is none, 2' "$(told tree/tools/install.sh --prefix=p)"
+compare 'install.sh: --frob is no word of this script: --help tells them, 2' "$(told tree/tools/install.sh --frob)"
+compare 'install.sh: /q: PREFIX is named already, /p, 2' "$(told tree/tools/install.sh /p /q)"
+case $(told DESTDIR="$work/none" tree/tools/install.sh --help) in
+"Installs the proved programs"*--prefix=PREFIX*", 0") compare '' "$(ls none 2>/dev/null)" ;;
+*) compare 'what install.sh does' "$(told DESTDIR="$work/none" tree/tools/install.sh --help)" ;;
+esac
 
 [ "$failed" -eq 0 ] && echo "$cases cases, as wanted"
 exit "$failed"
