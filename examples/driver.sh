@@ -1,11 +1,11 @@
 #!/bin/sh
-# The linker behind a compiler: builds the package in driver/ by its own makefile with tools/driver/cc, by which musl-gcc
-# finds tools/driver/ld as its linker, with a check of the link; runs the program, and compares what it prints with what the same build by GNU ld
+# The linker behind a compiler: builds the package in driver/ by its own makefile with tools/driver/cc-static, by which
+# musl-gcc finds tools/driver/ld as its linker, with a check of the link; runs the program, and compares what it prints with what the same build by GNU ld
 # prints. Then it shows what a word that would change the program is answered. It needs musl-gcc (in Debian: musl-tools),
 # make and ar, and says so where one is missing. All files stand in a temporary directory, which goes away at the end.
 #
 # The linker is the proved program crates/ld/out/ld, where it stands. Else it is the unproved one, which `rt try`
-# compiles and unproved_linker.sh keeps.
+# compiles and unproved_programs.sh keeps.
 set -eu
 
 root=$(cd "$(dirname "$0")/.." && pwd)
@@ -29,8 +29,8 @@ ln -s "$root/tools/driver" "$work/tools"
 cp -r "$root/examples/driver" "$work/ours"
 cp -r "$root/examples/driver" "$work/peer"
 
-echo "\$ LD_CHECK=say make CC=\"\$PWD/tools/driver/cc\" LDFLAGS=-static"
-make -C "$work/ours" -s CC="$work/tools/cc" LDFLAGS=-static
+echo "\$ LD_CHECK=say make CC=\"\$PWD/tools/driver/cc-static\""
+make -C "$work/ours" -s CC="$work/tools/cc-static"
 
 echo "\$ ./sorted pear fig apple; echo \$?"
 status=0
@@ -47,8 +47,8 @@ if [ "$status" -ne 0 ]; then
 fi
 echo "The program that GNU ld links prints the same."
 
-echo "\$ \"\$PWD/tools/driver/cc\" -static -Wl,--wrap=puts main.o"
-if (cd "$work/ours" && "$work/tools/cc" -static -Wl,--wrap=puts main.o) 2>"$work/told"; then
+echo "\$ \"\$PWD/tools/driver/cc-static\" -Wl,--wrap=puts main.o"
+if (cd "$work/ours" && "$work/tools/cc-static" -Wl,--wrap=puts main.o) 2>"$work/told"; then
     echo "This word is refused otherwise." >&2
     exit 1
 fi

@@ -5,7 +5,7 @@
 # one is missing. All files stand in a temporary directory, which goes away at the end.
 #
 # The linker is the proved program crates/ld/out/ld, where it stands. Else it is the unproved one, which `rt try`
-# compiles and unproved_linker.sh keeps.
+# compiles and unproved_programs.sh keeps.
 set -eu
 
 root=$(cd "$(dirname "$0")/.." && pwd)

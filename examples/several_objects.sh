@@ -5,7 +5,7 @@
 # goes away at the end.
 #
 # The linker is the proved program crates/ld/out/ld, where it stands. Else it is the unproved one, which `rt try`
-# compiles and unproved_linker.sh keeps. `rt ci` at the top of the repository proves everything and leaves the proved
+# compiles and unproved_programs.sh keeps. `rt ci` at the top of the repository proves everything and leaves the proved
 # program; `cd crates/ld && rt run` proves and builds just what the program stands on.
 
 # Lists of words are parted at spaces.

@@ -9,7 +9,7 @@
 # the end.
 #
 # The linker is the proved program crates/ld/out/ld, where it stands. Else it is the unproved one, which `rt try`
-# compiles and unproved_linker.sh keeps.
+# compiles and unproved_programs.sh keeps.
 
 # Lists of words are parted at spaces.
 # shellcheck disable=SC2086
