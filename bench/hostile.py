@@ -1,7 +1,10 @@
 #!/usr/bin/env python3
-"""Measures the proved linker and its check on inputs that nobody writes but to hurt, each of them also doubled.
+"""Measures the proved programs on inputs that nobody writes but to hurt, each of them also doubled.
 
-    python3 bench/hostile.py [--program PROGRAM] [--runs N] [--scale F] [INPUT..]
+    python3 bench/hostile.py [--only ld|ld-debug|ld-why] [--program PROGRAM] [--runs N] [--scale F] [INPUT..]
+
+Each input is linked and checked by `ld`, then by `ld-debug`, then by `ld-why`; --only names one of them, and --program then is
+that one, in place of the proved one.
 
     weak          one object with a million weak symbols of one name
     sections      65,000 sections of code in an object; doubled: two objects
@@ -22,6 +25,10 @@
     local-slots   100,000 LOCAL symbols whose names are ends of one text of 10 MB, each with a slot of the GOT
     long-name     100,000 relocations, half of them for a slot, that name one weak symbol without a definition, whose name has
                   10 MB
+    debug-name    100,000 relocations of debug data that name one such symbol
+    debug-gaps    2,000 sections of debug data of one byte, each aligned to 2^21
+    undefined     20,000 GLOBAL symbols without a definition, whose names are ends of one text, and a relocation to each
+    one-undefined 100,000 relocations that name one GLOBAL symbol without a definition, whose name has 1 MB
 
 Two more grow faster than their bytes, for reasons that docs/BENCHMARKS.md gives. They run only where they are named,
 are small, and have no limit:
@@ -29,8 +36,8 @@ are small, and have no limit:
     weak-ends     5,000 weak symbols without a definition whose names are ends of one text of 500 kB
     products      400 directories, none of them there, and as many -l of names that only a last one has
 
-All but the maps and `segments` are linked with a map, and the link is checked. Those are only checked: their images
-and maps are made here. Time is that of the processor, in the program and in the system for it, memory the greatest
+All but the maps and `segments` are linked with a map, and the link is checked; `undefined` and `one-undefined` are refused.
+The maps and `segments` are only checked: their images and maps are made here, and have no tables for `ld-debug`. Time is that of the processor, in the program and in the system for it, memory the greatest
 resident set, medians of the runs, in seconds and MiB; `by bytes` is memory by the bytes of all files that are read or
 written, and of the words. The last two columns are the doubled input's time and memory by those of the single one:
 linear is 2.
@@ -55,7 +62,11 @@ sys.path.insert(0, str(ROOT / "tools" / "judge"))
 
 import elf  # noqa: E402
 
-PROVED = ROOT / "crates" / "ld" / "out" / "ld"
+PROVED = {
+    "ld": ROOT / "crates" / "ld" / "out" / "ld",
+    "ld-debug": ROOT / "crates" / "ld_debug" / "out" / "ld_debug",
+    "ld-why": ROOT / "crates" / "ld_why" / "out" / "ld_why",
+}
 GROWTH_LIMIT = 2.3
 # Shorter times swing by more than the limit allows.
 LEAST_SECONDS = 0.5
@@ -71,7 +82,7 @@ class Failed(Exception):
 
 
 class Step:
-    """A run of the program: its name, its words, what it must print, with which status, and the files it reads or writes."""
+    """A run of a program: its name, its words, what `ld` must print, with which status, and the files it reads or writes."""
 
     def __init__(self, name, words, files, expect="", status=0):
         self.name = name
@@ -194,6 +205,51 @@ def long_name(folder, count):
     path = folder / "long.o"
     path.write_bytes(made.with_places(table, [(1, elf.WEAK << 4, 0, 0)]))
     return link_and_check(folder, [start(folder), path])
+
+
+def refused(folder, words, line):
+    """A link that is refused."""
+    image = folder / "image"
+    files = [word for word in words if isinstance(word, Path)]
+    return [Step("link", ["-o", image] + words, files, line, 1)]
+
+
+def debug_name(folder, count):
+    made = Names()
+    info = made.section(".debug_info", elf.PROGBITS, 0, bytes(8 * count), 1)
+    made.relocations(info, [(8 * k, elf.ABS64, 1, 0) for k in range(count)])
+    table, _ = ends_of_one_text(count)
+    path = folder / "debug.o"
+    path.write_bytes(made.with_places(table, [(1, elf.WEAK << 4, 0, 0)]))
+    return link_and_check(folder, [start(folder), path])
+
+
+def debug_gaps(folder, count):
+    made = elf.Object()
+    for _ in range(count):
+        made.section(".debug_info", elf.PROGBITS, 0, b"\1", 1 << 21)
+    path = folder / "gaps.o"
+    path.write_bytes(made.bytes())
+    return link_and_check(folder, [start(folder), path])
+
+
+def undefined_ends(folder, count):
+    made = Names()
+    data = made.section(".data", elf.PROGBITS, DATA, bytes(8 * count), 8)
+    made.relocations(data, [(8 * k, elf.ABS64, 1 + k, 0) for k in range(count)])
+    table, places = ends_of_one_text(count)
+    path = folder / "ends.o"
+    path.write_bytes(made.with_places(table, [(at, elf.GLOBAL << 4, 0, 0) for at in places]))
+    return refused(folder, [start(folder), path], None)
+
+
+def one_undefined(folder, count):
+    made = Names()
+    data = made.section(".data", elf.PROGBITS, DATA, bytes(8 * count), 8)
+    made.relocations(data, [(8 * k, elf.ABS64, 1, 0) for k in range(count)])
+    path = folder / "name.o"
+    path.write_bytes(made.with_places(b"\0" + b"n" * (10 * count) + b"\0", [(1, elf.GLOBAL << 4, 0, 0)]))
+    return refused(folder, [start(folder), path], None)
 
 
 def weak_ends(folder, count):
@@ -392,7 +448,14 @@ INPUTS = {
     "flooded": (flooded, 16_000),
     "local-slots": (local_slots, 100_000),
     "long-name": (long_name, 100_000),
+    "debug-name": (debug_name, 100_000),
+    "debug-gaps": (debug_gaps, 2_000),
+    "undefined": (undefined_ends, 20_000),
+    "one-undefined": (one_undefined, 100_000),
 }
+
+# Those whose images have no tables for tools.
+WITHOUT_TABLES = ("map-objects", "map-slots", "map-symbols", "segments")
 
 NOT_LINEAR = {
     "weak-ends": (weak_ends, 5_000),
@@ -400,32 +463,41 @@ NOT_LINEAR = {
 }
 
 
-def measured(program, step):
+def answer(kind, name, step):
+    """What a program must print in a step of an input, None for any text, and its status."""
+    if kind == "ld-debug" and name in WITHOUT_TABLES and step.status == 0:
+        return "no tables\n", 1
+    if kind == "ld-why" and step.status == 1:
+        return None, 1
+    return step.expect, step.status
+
+
+def measured(program, step, expect, status):
     """Runs a step: seconds and KiB. GNU time stands between, since a child of this process would count this one's memory."""
     with tempfile.NamedTemporaryFile("r") as usage:
         words = [shutil.which("time"), "-q", "-f", "%U %S %M", "-o", usage.name, str(program)] + step.words
         run = subprocess.run(words, stdout=subprocess.PIPE, stderr=subprocess.STDOUT, text=True, check=False)
         user, system, kib = usage.read().split()
-    if run.returncode != step.status or run.stdout != step.expect:
+    if run.returncode != status or expect is not None and run.stdout != expect:
         raise Failed(f"{step.name}: status {run.returncode}: {run.stdout[:500].strip()}")
     return float(user) + float(system), int(kib)
 
 
-def medians(program, steps, runs):
-    """The medians of seconds and KiB of each step, and its bytes, by its name."""
+def medians(kind, program, name, steps, runs):
+    """The medians of seconds and KiB of each step, and its bytes, by its name. `ld-why` checks what `ld` linked before."""
     results = {}
     for step in steps:
-        rows = [measured(program, step) for _ in range(runs)]
+        rows = [measured(program, step, *answer(kind, name, step)) for _ in range(runs)]
         size = sum(file.stat().st_size for file in step.files) + sum(len(word) + 1 for word in step.words)
         results[step.name] = (statistics.median(row[0] for row in rows), statistics.median(row[1] for row in rows), size)
     return results
 
 
-def print_rows(name, count, results, single):
+def print_rows(kind, name, count, results, single):
     """Prints a line for each step, with its growth where there is a single input. Whether all stay within the limit."""
     within = True
     for step, (seconds, kib, size) in results.items():
-        line = f"{name:<13}{count:>11,}  {step:<7}{size / 1e6:>9.1f}{seconds:>9.2f}{kib / 1024:>9.1f}{1024 * kib / size:>9.2f}"
+        line = f"{name:<14}{kind:<9}{count:>10,}  {step:<6}{size / 1e6:>9.1f}{seconds:>9.2f}{kib / 1024:>9.1f}{1024 * kib / size:>9.2f}"
         if single:
             time, memory = seconds / max(single[step][0], 0.01), kib / single[step][1]
             line += f"{time:>8.2f}{memory:>8.2f}"
@@ -434,35 +506,45 @@ def print_rows(name, count, results, single):
     return within
 
 
-def measure(program, name, scale, runs):
-    """Measures an input and its double. Whether both stay within the limit."""
+def measure(programs, name, scale, runs):
+    """Measures an input and its double by each program. Whether all stay within the limit."""
     make, count = (INPUTS | NOT_LINEAR)[name]
-    single, within = None, True
+    single, within = {}, True
     for number in (int(count * scale), 2 * int(count * scale)):
         with tempfile.TemporaryDirectory(prefix="hurt-") as place:
-            results = medians(program, make(Path(place), number), runs)
-        within = print_rows(name, number, results, single) and within or name in NOT_LINEAR
-        single = results
+            steps = make(Path(place), number)
+            for kind, program in programs.items():
+                if kind == "ld-why" and len(steps) > 1 and "ld" not in programs:
+                    measured(PROVED["ld"], steps[0], *answer("ld", name, steps[0]))
+                results = medians(kind, program, name, steps, runs)
+                within = print_rows(kind, name, number, results, single.get(kind)) and within or name in NOT_LINEAR
+                single[kind] = results
     return within
 
 
 def main():
-    parser = argparse.ArgumentParser(description="Measures the proved linker on inputs that hurt.")
-    parser.add_argument("--program", type=Path, default=PROVED)
+    parser = argparse.ArgumentParser(description="Measures the proved programs on inputs that hurt.")
+    parser.add_argument("--only", choices=list(PROVED))
+    parser.add_argument("--program", type=Path)
     parser.add_argument("--runs", type=int, default=3)
     parser.add_argument("--scale", type=float, default=1.0)
     parser.add_argument("inputs", nargs="*", choices=[[], *INPUTS, *NOT_LINEAR])
     asked = parser.parse_args()
-    if not shutil.which("time") or not os.access(asked.program, os.X_OK):
-        print(f"needs GNU time, and {asked.program}: cd crates/ld && rt run", file=sys.stderr)
+    programs = {asked.only: asked.program or PROVED[asked.only]} if asked.only else dict(PROVED)
+    if asked.program and not asked.only:
+        parser.error("--program goes with --only")
+    missing = [str(path) for path in programs.values() if not os.access(path, os.X_OK)]
+    if not shutil.which("time") or missing:
+        print(f"needs GNU time, and {' '.join(missing)}: rt run in their crates", file=sys.stderr)
         return 2
+    programs = {kind: path.resolve() for kind, path in programs.items()}
     # Room for the words: a fourth of the stack's limit.
     resource.setrlimit(resource.RLIMIT_STACK, (64 << 20, resource.getrlimit(resource.RLIMIT_STACK)[1]))
-    print(f"{'input':<13}{'count':>11}  {'step':<7}{'MB':>9}{'seconds':>9}{'MiB':>9}{'by bytes':>9}{'time':>8}{'memory':>8}")
+    print(f"{'input':<14}{'program':<9}{'count':>10}  {'step':<6}{'MB':>9}{'seconds':>9}{'MiB':>9}{'by bytes':>9}{'time':>8}{'memory':>8}")
     within = True
     for name in asked.inputs or INPUTS:
         try:
-            within = measure(asked.program.resolve(), name, asked.scale, asked.runs) and within
+            within = measure(programs, name, asked.scale, asked.runs) and within
         except Failed as failure:
             print(f"{name}: {failure}", flush=True)
             within = False
