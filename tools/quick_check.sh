@@ -1,6 +1,6 @@
 #!/usr/bin/env bash
 # Says in seconds what would fail the gate after an hour: a file that `rt fmt` would change, a wrong body that no longer
-# fits the text, and a handle of std that HANDLES doesn't allow; and where docs/CALLS.md isn't what the contracts say, or
+# fits the text, a handle of std that HANDLES doesn't allow, and a symbolic link; and where docs/CALLS.md isn't what the contracts say, or
 # docs/PROOFS.md what the heads of the lemmas do, where docs/PROMISES.md or README.md names a call or a clause that isn't
 # there, where a crate of the checker names the linker's own layout, or, where mandoc is there, it complains of a man
 # page. It works on a copy of the tree, committed or not, and changes nothing.
@@ -32,6 +32,7 @@ tools/lemmas.py --check || failed=1
 for crate in check_load check_link check_relocs check_stages check_places check_tables checker; do
     grep -rn 'elf_model\.specs\.Own\.' "$copy/crates/$crate" && failed=1
 done
+git ls-files --stage | sed -n 's/^120000 .*\t/a symbolic link: /p' | grep . && failed=1
 grep -rnE '^use std::.*\b(Net|Processes|Threads|Wait)\b' --include='*.rt' "$copy/crates" && failed=1
 if command -v mandoc >/dev/null; then
     (cd docs/man && mandoc -Tlint ./*.[0-9]) || failed=1
