@@ -15,6 +15,10 @@ The inputs, each of them also doubled:
     slots        one object with 300,000 relocations of type GOTPCREL, to 30,000 names
     threads      one object with 100,000 relocations of types TPOFF32 and GOTTPOFF, to 10,000 thread-local sections
     arrays       5,000 arrays of a function, each with a number, in 500 objects
+    huge         500 objects with 1,000 functions each, of 10 calls each: 5,000,000 relocations
+    long         350,000 symbols in 350 objects, whose names have 120 bytes, of which the first 100 are alike
+    few          one object that takes one of 4,000 members of an archive of 188 MB, by -l
+    some         one that takes 100 of them
 
 They lie inside the profile (docs/PROFILE.md), and are made by `as` or by tools/judge/elf.py. The linkers: the proved program
 crates/ld/out/ld, and of ld.bfd, ld.gold, ld.lld and mold those that are on PATH, with one thread and one process
@@ -309,6 +313,80 @@ def many_arrays(folder, count):
     return words
 
 
+def many_references(folder, count):
+    """Objects of 1,000 functions. Each counts a call and returns; behind that it has calls of ten others, which never run."""
+    body = COUNT + RET + 10 * CALL
+    order = random.Random(1)
+    words = [folder / "start.o"]
+    start_object(words[0], ["function_0_0", f"function_{count - 1}_999"], 2)
+    for i in range(count):
+        made = elf.Object()
+        text = made.section(".text", elf.PROGBITS, elf.ALLOC | elf.EXEC, 1000 * body, 16)
+        for j in range(1000):
+            made.symbol(f"function_{i}_{j}", text, value=j * len(body))
+        calls, others = made.symbol("calls", 0), {}
+        entries = []
+        for j in range(1000):
+            entries.append((j * len(body) + 3, elf.PC32, calls, -4))
+            for k in range(10):
+                called = (order.randrange(count), order.randrange(1000))
+                if called[0] == i:
+                    number = calls - 1000 + called[1]
+                else:
+                    number = others.get(called) or others.setdefault(called, made.symbol(f"function_{called[0]}_{called[1]}", 0))
+                entries.append((j * len(body) + len(COUNT + RET) + 5 * k + 1, elf.PLT32, number, -4))
+        made.relocations(text, entries)
+        words.append(folder / f"o{i}.o")
+        words[-1].write_bytes(made.bytes())
+    return words
+
+
+def long_names(folder, count):
+    """350 objects with names of 120 bytes, of which the first 100 are alike, as those of C++ are."""
+    each = count // 350
+    words = [folder / "start.o"]
+    begin = "_ZN" + "5space" * 16 + "f"
+
+    def name(i, j):
+        return f"{begin}{i:08}_{j:011}"
+
+    start_object(words[0], [name(0, 0), name(349, each - 1)], 2)
+    for i in range(350):
+        made = elf.Object()
+        text = made.section(".text", elf.PROGBITS, elf.ALLOC | elf.EXEC, COUNT + RET, 16)
+        made.relocations(text, [(3, elf.PC32, made.symbol("calls", 0), -4)])
+        for j in range(each):
+            made.symbol(name(i, j), text)
+        words.append(folder / f"o{i}.o")
+        words[-1].write_bytes(made.bytes())
+    return words
+
+
+def large_archive(folder, members, taken):
+    """An archive of members with 47,000 bytes of data each, searched by -l, and an object that takes some of them."""
+    filling = random.Random(1)
+    parts = []
+    for k in range(members):
+        made = elf.Object()
+        text = made.section(".text", elf.PROGBITS, elf.ALLOC | elf.EXEC, COUNT + RET, 16)
+        made.section(".data", elf.PROGBITS, elf.ALLOC | elf.WRITE, filling.randbytes(47_000), 8)
+        made.symbol(f"member_{k}", text)
+        made.relocations(text, [(3, elf.PC32, made.symbol("calls", 0), -4)])
+        parts.append(([f"member_{k}"], made.bytes()))
+    (folder / "liblarge.a").write_bytes(elf.archive(parts))
+    words = [folder / "start.o", "-L", str(folder), "-l", "large"]
+    start_object(words[0], [f"member_{k * (members // taken)}" for k in range(taken)], taken)
+    return words
+
+
+def few_members(folder, members):
+    return large_archive(folder, members, 1)
+
+
+def some_members(folder, members):
+    return large_archive(folder, members, max(1, members // 40))
+
+
 INPUTS = {
     "objects": (many_objects, 2_000),
     "relocations": (many_relocations, 200_000),
@@ -320,6 +398,10 @@ INPUTS = {
     "slots": (many_slots, 300_000),
     "threads": (many_threads, 100_000),
     "arrays": (many_arrays, 5_000),
+    "huge": (many_references, 500),
+    "long": (long_names, 350_000),
+    "few": (few_members, 4_000),
+    "some": (some_members, 4_000),
 }
 
 
