@@ -2,9 +2,11 @@
 mod debug_data;
 mod dropped_groups;
 mod found;
+mod kept_groups;
 mod left_data;
 mod names;
 mod rows;
 mod sections;
 mod tables;
+mod values;
 mod vectors;

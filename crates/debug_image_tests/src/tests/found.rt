@@ -74,3 +74,10 @@ pub fn symbol_named(image: &[u8], number: usize, name: &str) -> Result<Option<Sy
     }
     Ok(None)
 }
+
+/// Where the bytes of a section are in a file, by its number.
+pub fn offset_of(file: &[u8], number: u16) -> Result<u64, Fail> {
+    let file = View::new(file);
+    let header = FileHeader::read(file.sub(0, 64).ok_or("a file header")?).ok_or("64 bytes")?;
+    Ok(section(&file, &header, number)?.sh_offset)
+}

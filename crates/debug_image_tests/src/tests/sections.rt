@@ -1,13 +1,15 @@
 //! Which sections an image has, where they end, and which section a symbol is of. The addresses are those of the profile's layout
 //! and the fields those of System V gABI 4 ("Sections", "Symbol Table"), by hand.
-use crate::tests::found::{find, has_section, section_count, symbol_named};
+use crate::tests::found::{find, has_section, offset_of, section_count, symbol_named};
 use crate::tests::tables::debuggable_of;
-use elf_model::{SHF_ALLOC, SHF_EXECINSTR, SHN_ABS, SHN_COMMON};
+use elf_model::{SHF_ALLOC, SHF_EXECINSTR, SHN_ABS, SHN_COMMON, SYM_SIZE};
 use ld_main::prepare;
 use link_samples::links::{File, files_of};
-use link_samples::objects::{NamedSymbol, Section};
-use link_samples::one_object::words_of;
-use link_samples::parts::{BSS, DATA, F, START, TEXT, THREAD_DATA, THREAD_ZEROS};
+use link_samples::objects::{NamedSymbol, Relocation, Section, relocatable};
+use link_samples::one_object::{one_file, words_of};
+use link_samples::parts::{
+    BSS, DATA, F, FOO, LOADER, RODATA, START, TEXT, THREAD_DATA, THREAD_ZEROS, V, ZEROS_FOO,
+};
 use std::alloc::Global;
 use std::test::Fail;
 
@@ -388,6 +390,190 @@ fn sections_end_with_their_last_piece_that_is_not_empty(rt: HostRuntime) -> Resu
 fn sections_without_bytes_have_no_header(rt: HostRuntime) -> Result<(), Fail> {
     for row in &EMPTY_SECTIONS {
         assert!(rt; is_right(rt.alloc(), row)?);
+    }
+    Ok(())
+}
+
+/// A LOCAL symbol of a file whose name begins as the compiler's own do, one of a section that has a name, and a function whose
+/// name begins with a dot; and others like them.
+const FILE_LOCAL: NamedSymbol<'static> = NamedSymbol {
+    name: ".L1.c",
+    st_info: 0x4,
+    st_shndx: SHN_ABS,
+    st_value: 0,
+    st_size: 0,
+};
+
+const OTHER_FILE: NamedSymbol<'static> = NamedSymbol {
+    name: ".L2.c",
+    ..FILE_LOCAL
+};
+
+const NAMED_SECTION: NamedSymbol<'static> = NamedSymbol {
+    name: "whole",
+    st_info: 0x3,
+    st_shndx: 1,
+    ..FILE_LOCAL
+};
+
+const DOTTED: NamedSymbol<'static> = NamedSymbol {
+    name: ".dot",
+    ..LOCAL_TWO
+};
+
+const OTHER_DOTTED: NamedSymbol<'static> = NamedSymbol {
+    name: ".other",
+    ..LOCAL_THREE
+};
+
+/// Strings that may be merged.
+const STRINGS: Section<'static> = Section {
+    sh_flags: SHF_ALLOC | 0x30,
+    bytes: &[0x61, 0, 0x62, 0, 0x63, 0, 0x64, 0],
+    ..RODATA
+};
+
+/// `.data` of four bytes at a multiple of 16, and four bytes of another name.
+const FOUR_AT_16: Section<'static> = Section {
+    sh_addralign: 16,
+    ..FOUR
+};
+
+const OTHER_FOUR: Section<'static> = Section {
+    name: ".other",
+    ..FOUR
+};
+
+/// A load by way of the GOT.
+const LOAD: [Relocation; 1] = [Relocation(1, 3, 42, 2, -4)];
+
+/// Flags that only tell how sections may be joined are left out, and the GOT has a section; two sections have one name where they
+/// differ in what they hold; the alignment is one that the address has; and LOCAL symbols that tools want.
+static KINDS: [Row; 4] = [
+    Row {
+        files: &[File::Object("a.o", &[LOADER, DATA, STRINGS], &[START, V], &LOAD)],
+        headers: &[
+            (".rodata", [1, 2, 0x400120, 0x120, 8, 8]),
+            (
+                ".text",
+                [1, SHF_ALLOC | SHF_EXECINSTR, 0x401000, 0x1000, 16, 1],
+            ),
+            (".data", [1, 3, 0x402000, 0x2000, 8, 8]),
+            (".got", [1, 3, 0x402008, 0x2008, 16, 8]),
+        ],
+        absent: &["COMMON"],
+        locals: 1,
+        entries: &[
+            ("_start", [0x12, 2, 0x401000, 9]),
+            ("v", [0x11, 3, 0x402000, 8]),
+        ],
+    },
+    Row {
+        files: &[
+            File::Object("a.o", &[TEXT, FOO, ZEROS_FOO], &[START], &[]),
+            File::Object("b.o", &[FOO, ZEROS_FOO], &[AT_FIRST, AT_SECOND], &[]),
+        ],
+        headers: &[
+            TEXT_HEADER,
+            ("foo", [1, 3, 0x402000, 0x2000, 16, 8]),
+            ("foo", [1, 3, 0x402000, 0x2000, 16, 8]),
+        ],
+        absent: &[],
+        locals: 1,
+        entries: &[
+            START_ENTRY,
+            ("e", [0x10, 2, 0x402008, 0]),
+            ("g", [0x10, 3, 0x402018, 0]),
+        ],
+    },
+    Row {
+        files: &[
+            File::Object("a.o", &[TEXT, OTHER_FOUR, FOUR], &[START], &[]),
+            File::Object("b.o", &[FOUR_AT_16], &[AT_FIRST], &[]),
+        ],
+        headers: &[
+            TEXT_HEADER,
+            (".other", [1, 3, 0x402000, 0x2000, 4, 4]),
+            (".data", [1, 3, 0x402004, 0x2004, 16, 4]),
+        ],
+        absent: &[],
+        locals: 1,
+        entries: &[START_ENTRY, ("e", [0x10, 3, 0x402010, 0])],
+    },
+    Row {
+        files: &[
+            File::Object(
+                "a.o",
+                &[TEXT],
+                &[FILE_LOCAL, NAMED_SECTION, DOTTED, START],
+                &[],
+            ),
+            File::Object(
+                "b.o",
+                &[TEXT],
+                &[OTHER_FILE, NAMED_SECTION, OTHER_DOTTED, F],
+                &[],
+            ),
+        ],
+        headers: &[(
+            ".text",
+            [1, SHF_ALLOC | SHF_EXECINSTR, 0x401000, 0x1000, 18, 1],
+        )],
+        absent: &[],
+        locals: 5,
+        entries: &[
+            (".L1.c", [0x4, ABS, 0, 0]),
+            (".dot", [0x2, 1, 0x401004, 2]),
+            (".L2.c", [0x4, ABS, 0, 0]),
+            (".other", [0x2, 1, 0x40100a, 3]),
+            START_ENTRY,
+            ("f", [0x12, 1, 0x401009, 9]),
+        ],
+    },
+];
+
+#[test]
+fn sections_and_symbols_are_of_their_kinds(rt: HostRuntime) -> Result<(), Fail> {
+    for (number, row) in KINDS.iter().enumerate() {
+        assert!(rt; is_right(rt.alloc(), row)?, "row {number}");
+    }
+    Ok(())
+}
+
+/// The symbols of an object by their numbers, and what their st_other becomes: hidden and protected (System V gABI 4, "Symbol
+/// Visibility").
+static OTHERS: [(usize, &str, u8); 2] = [(1, "_start", 2), (2, "f", 3)];
+
+/// An object whose symbols have such st_other. Its symbol table is section 2.
+fn object_with_others(alloc: Global) -> Result<Vec<u8>, Fail> {
+    let mut object = relocatable(alloc, &[TEXT], &[START, F], &[])?;
+    let table = offset_of(&object, 2)? as usize;
+    for (number, _, other) in &OTHERS {
+        let at = table.wrapping_add(SYM_SIZE.wrapping_mul(*number));
+        *object.get_mut(at.wrapping_add(5)).ok_or("a symbol")? = *other;
+    }
+    Ok(object)
+}
+
+/// The image of the link of an object.
+fn image_of_object(alloc: Global, object: &[u8]) -> Result<Vec<u8>, Fail> {
+    let files = one_file(alloc, "a.o", object)?;
+    let words = words_of(alloc, "-s a.o")?;
+    let Ok(linkage) = prepare(alloc, &files, &words) else {
+        return Err(Fail::from("the link is refused"));
+    };
+    let Ok(image) = debuggable_of(alloc, &linkage, true)? else {
+        return Err(Fail::from("the image is refused"));
+    };
+    Ok(image)
+}
+
+#[test]
+fn symbols_keep_their_visibility(rt: HostRuntime) -> Result<(), Fail> {
+    let image = image_of_object(rt.alloc(), &object_with_others(rt.alloc())?)?;
+    for (number, name, other) in &OTHERS {
+        let symbol = symbol_named(&image, *number, name)?.ok_or("a symbol")?;
+        assert_eq!(rt; symbol.st_other, *other, "{name}");
     }
     Ok(())
 }
