@@ -173,8 +173,8 @@ fn tells_faults_of_files(rt: HostRuntime) -> Result<(), Fail> {
     for (line, complaint) in rows {
         assert_run(&rt, line, 3, "", complaint)?;
     }
-    // Where one of the two can't be written, the other isn't there either.
-    assert!(rt; !fs::exists(&rt, "a.out")?);
+    // The image is there and whole where its map can't be written, and no map is where the image can't be.
+    assert_image(&rt, "a.out")?;
     assert!(rt; !fs::exists(&rt, "full.map")?);
     leave_folder(&rt, &folder)
 }
