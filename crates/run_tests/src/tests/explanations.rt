@@ -1,6 +1,7 @@
 //! What `ld-why` prints of a check, on a system in memory.
 use crate::tests::machine::{Disk, Kind, Machine, NewFiles, SOUND, StoredFile};
 use crate::tests::runs::{Program, run_program_line};
+use elf_model::InputFile;
 use link_samples::links::{Change, File, changed};
 use link_samples::objects::{NamedSymbol, Relocation, relocatable};
 use link_samples::one_object::words_of;
@@ -70,9 +71,15 @@ const POOR: NewFiles = NewFiles {
     ..SOUND
 };
 
+/// No folder takes a new file.
+const LOCKED: NewFiles = NewFiles {
+    locked: Some(("", ErrorKind::PermissionDenied)),
+    ..SOUND
+};
+
 /// Lines, how new files answer, and all that comes of a run of `ld-why`: whether the outputs of a link can be written. Nothing is
-/// left.
-static OUTPUTS: [(&str, NewFiles, &str); 8] = [
+/// left but the device.
+static OUTPUTS: [(&str, NewFiles, &str); 10] = [
     (
         "-s a.o",
         SOUND,
@@ -108,12 +115,28 @@ static OUTPUTS: [(&str, NewFiles, &str); 8] = [
         POOR,
         "stat a.out\nread a.o\nopen a.out\nnew .a.out.ld-0\nout: ld: Memory (1)\n\nerr: \nstatus 4",
     ),
+    // A device is opened and not written; a file whose folder takes no new one has no number here by which it is known again.
+    (
+        "-s a.o -o null",
+        SOUND,
+        "stat null\nread a.o\nopen null\nout: \nerr: \nstatus 0",
+    ),
+    (
+        "-s a.o -o old",
+        LOCKED,
+        "stat old\nread a.o\nopen old\nnew .old.ld-0\nopen old\nout: ld: cannot write old\nold: permission denied\n\nerr: \nstatus 3",
+    ),
     (
         "-s a.o folder",
         SOUND,
         "stat a.out\nread a.o\nread folder\nread folder\nout: ld: cannot read folder\nfolder: is a directory\n\nerr: \nstatus 3",
     ),
 ];
+
+/// Whether a file is the device, which is opened, and has no bytes.
+fn is_untouched_device(file: &InputFile) -> bool {
+    file.name.as_str() == "null" && file.bytes.is_empty()
+}
 
 #[test]
 fn ld_why_says_why_an_output_can_not_be_written(rt: HostRuntime) -> Result<(), Fail> {
@@ -123,40 +146,70 @@ fn ld_why_says_why_an_output_can_not_be_written(rt: HostRuntime) -> Result<(), F
         torn: Some((0, ErrorKind::IsADirectory)),
         ..StoredFile::sound("folder", b"")
     };
-    let stored = [StoredFile::sound("a.o", &OBJECT), folder];
+    let null = StoredFile {
+        kind: Kind::Device,
+        ..StoredFile::sound("null", b"")
+    };
+    let stored = [
+        StoredFile::sound("a.o", &OBJECT),
+        StoredFile::sound("old", b"old"),
+        folder,
+        null,
+    ];
     for (line, new_files, wanted) in &OUTPUTS {
         let run = run_program_line(alloc, Program::Why, &stored, *new_files, line)?;
         assert_eq!(rt; run.told.as_str(), *wanted, "{line}");
-        assert!(rt; run.made.is_empty(), "{line}");
+        let kept = run.made.iter().all(is_untouched_device);
+        assert!(rt; kept, "{line}");
     }
     Ok(())
 }
 
-/// A common symbol with an unlawful alignment, and a symbol without a name.
+/// A common symbol with an unlawful alignment, and a symbol past the end of its section.
 const SKEWED: NamedSymbol<'static> = NamedSymbol {
     st_value: 3,
     ..COMMON
 };
 
-const NAMELESS: NamedSymbol<'static> = NamedSymbol { name: "", ..F };
+const FAR: NamedSymbol<'static> = NamedSymbol { st_value: 10, ..F };
 
-/// What is put in place of the object of a right link, before that is checked, and what `ld-why` prints: why no image and map are a
-/// right link of it.
-static FAULTY: [(&[NamedSymbol], &str); 2] = [
+const WITH_COMMON: &[File] = &[File::Object("a.o", &[TEXT], &[START, COMMON], &[])];
+
+const WITH_F: &[File] = &[File::Object("a.o", &[TEXT], &[START, F], &[])];
+
+/// A link, what is changed of its map, the symbols that its object has when it is checked, and what `ld-why` prints: why no image
+/// and map are a right link of it. The lines of the map are those that the object asks for.
+static FAULTY: [(&[File], Change, &[NamedSymbol], &str); 3] = [
     (
+        WITH_COMMON,
+        Change::Text(" 8 8 c\n", " 8 3 c\n"),
         &[START, SKEWED],
         "no C3\na.o: symbol 2 c: a common symbol must be GLOBAL, not of type TLS, and aligned to a power of two up to 2^21\n",
     ),
     (
-        &[START, NAMELESS],
-        "no C13\na.o: symbol 2 of .text: a symbol that isn't LOCAL needs a name and a section that is loaded, and any symbol lies within its section\n",
+        WITH_F,
+        Change::Text("0401000 strong 0 2 f", "040100a strong 0 2 f"),
+        &[START, FAR],
+        "no C13\na.o: symbol 2 f of .text: a symbol that isn't LOCAL needs a name and a section that is loaded, and any symbol lies within its section\n",
+    ),
+    (
+        PLAIN,
+        Change::Nothing,
+        &[START, START],
+        "no C13\na.o: symbol 1 _start of .text: defined here\na.o: symbol 2 _start of .text: defined here\n",
     ),
 ];
 
-/// What `ld-why` prints of the check of a right link of one object, with further files, by a line.
-fn checked(alloc: Global, files: &[StoredFile<'_>], line: &str) -> Result<String, Fail> {
+/// What `ld-why` prints of the check of a link after a change, with further files, by a line.
+fn checked(
+    alloc: Global,
+    linked: &[File],
+    change: &Change,
+    files: &[StoredFile<'_>],
+    line: &str,
+) -> Result<String, Fail> {
     let words = words_of(alloc, "-s a.o")?;
-    let (_, output) = changed(alloc, PLAIN, &words, &Change::Nothing)?;
+    let (_, output) = changed(alloc, linked, &words, change)?;
     let mut stored = Vec::new(alloc);
     stored.push(StoredFile::sound("a.out", &output.image))?;
     stored.push(StoredFile::sound("a.map", &output.map))?;
@@ -172,9 +225,10 @@ fn checked(alloc: Global, files: &[StoredFile<'_>], line: &str) -> Result<String
 #[test]
 fn what_is_wrong_with_the_inputs_of_a_check_is_told(rt: HostRuntime) -> Result<(), Fail> {
     let alloc = rt.alloc();
-    for (symbols, wanted) in &FAULTY {
+    for (linked, change, symbols, wanted) in &FAULTY {
         let object = relocatable(alloc, &[TEXT], symbols, &[])?;
-        let printed = checked(alloc, &[StoredFile::sound("a.o", &object)], "-s a.o")?;
+        let files = [StoredFile::sound("a.o", &object)];
+        let printed = checked(alloc, linked, change, &files, "-s a.o")?;
         assert!(rt; printed.starts_with(*wanted), "{printed}");
         assert!(rt; printed.ends_with("status 1"), "{printed}");
     }
@@ -182,7 +236,7 @@ fn what_is_wrong_with_the_inputs_of_a_check_is_told(rt: HostRuntime) -> Result<(
         StoredFile::sound("a.o", &OBJECT),
         StoredFile::sound("thin.a", b"!<thin>\n"),
     ];
-    let printed = checked(alloc, &files, "-s a.o thin.a")?;
+    let printed = checked(alloc, PLAIN, &Change::Nothing, &files, "-s a.o thin.a")?;
     assert_eq!(rt;
         printed.as_str(),
         "no C2\nthin.a: NotArchive (2): a thin archive, which has no members of its own: ar makes one that has without T\n\nerr: \nstatus 1"
