@@ -1,7 +1,7 @@
 //! `ld-debug` on a system in memory: which words it takes, which files it reads and makes, what it prints, and its status.
 use crate::tests::machine::{NewFiles, SOUND, StoredFile};
 use crate::tests::runs::{Outcome, Program, run_program_line};
-use elf_model::SHF_COMPRESSED;
+use elf_model::{SHF_COMPRESSED, SHN_ABS};
 use link_samples::objects::{NamedSymbol, Relocation, Section, relocatable};
 use link_samples::parts::{F, R_64, START, TEXT};
 use std::alloc::Global;
@@ -29,6 +29,15 @@ const PACKED: Section<'static> = Section {
     ..INFO
 };
 
+/// Debug data that no image takes: SHF_EXCLUDE.
+const TAKEN_BY_NONE: Section<'static> = Section {
+    sh_flags: 0x8000_0000,
+    ..LINES
+};
+
+/// Another function.
+const G: NamedSymbol<'static> = NamedSymbol { name: "g", ..F };
+
 /// A LOCAL function in section 1.
 const LOCAL: NamedSymbol<'static> = NamedSymbol {
     name: "hidden",
@@ -36,20 +45,25 @@ const LOCAL: NamedSymbol<'static> = NamedSymbol {
     ..START
 };
 
-/// Files of the system: two objects with debug data, one with compressed data, one whose debug data have a relocation of an
-/// unknown type, and one that defines nothing else than the first.
+/// Files of the system: two objects with debug data, one with compressed data, one with data that no image takes, and two whose
+/// debug data have relocations of an unknown type, the second one in two sections.
 fn outcome(alloc: Global, new_files: NewFiles, line: &str) -> Result<Outcome, Fail> {
     let unknown = [Relocation(2, 0, 200, 2, 0)];
+    let two_unknown = [Relocation(2, 0, 200, 2, 0), Relocation(3, 0, 201, 2, 0)];
     let first = [Relocation(2, 0, R_64, 2, 0)];
     let one = relocatable(alloc, &[TEXT, INFO], &[LOCAL, START], &first)?;
     let two = relocatable(alloc, &[TEXT, INFO, LINES], &[F], &[])?;
     let packed = relocatable(alloc, &[TEXT, PACKED, LINES], &[F], &[])?;
+    let taken = relocatable(alloc, &[TEXT, TAKEN_BY_NONE], &[G], &[])?;
     let odd = relocatable(alloc, &[TEXT, INFO], &[LOCAL, F], &unknown)?;
+    let strange = relocatable(alloc, &[TEXT, LINES, INFO], &[LOCAL, G], &two_unknown)?;
     let stored = [
         StoredFile::sound("a.o", &one),
         StoredFile::sound("b.o", &two),
         StoredFile::sound("packed.o", &packed),
+        StoredFile::sound("taken.o", &taken),
         StoredFile::sound("odd.o", &odd),
+        StoredFile::sound("strange.o", &strange),
     ];
     run_program_line(alloc, Program::Debug, &stored, new_files, line)
 }
@@ -90,7 +104,7 @@ const SLOW: NewFiles = NewFiles {
 };
 
 /// Lines, how new files answer, all that comes of a run but the bytes of files, and the paths of what it leaves.
-static ROWS: [(&str, NewFiles, &str, &str); 20] = [
+static ROWS: [(&str, NewFiles, &str, &str); 24] = [
     (
         "a.o b.o -Map=a.map",
         SLOW,
@@ -154,6 +168,12 @@ static ROWS: [(&str, NewFiles, &str, &str); 20] = [
         "",
     ),
     (
+        "a.o -m -S",
+        SOUND,
+        "out: \nerr: ld: Command (2): UnknownOption (2)\n\nstatus 2",
+        "",
+    ),
+    (
         "-o -S a.o",
         SOUND,
         "stat -S\nread a.o\nopen -S\nnew .-S.ld-0\nmode 100755\nrename .-S.ld-0 to -S\nout: \nerr: \nstatus 0",
@@ -207,6 +227,25 @@ static ROWS: [(&str, NewFiles, &str, &str); 20] = [
         "a.o packed.o",
         SOUND,
         "stat a.out\nread a.o\nread packed.o\nopen a.out\nnew .a.out.ld-0\nmode 100755\nrename .a.out.ld-0 to a.out\nout: \nerr: ld: left out the debug data of 1 object (2 sections); compressed in 1 object: compile with -gz=none\n\nstatus 0",
+        "a.out ",
+    ),
+    (
+        "a.o taken.o",
+        SOUND,
+        "stat a.out\nread a.o\nread taken.o\nopen a.out\nnew .a.out.ld-0\nmode 100755\nrename .a.out.ld-0 to a.out\nout: \nerr: ld: left out the debug data of 1 object (1 section)\n\nstatus 0",
+        "a.out ",
+    ),
+    (
+        "a.o packed.o taken.o",
+        SOUND,
+        "stat a.out\nread a.o\nread packed.o\nread taken.o\nopen a.out\nnew .a.out.ld-0\nmode 100755\nrename .a.out.ld-0 to a.out\nout: \nerr: ld: left out the debug data of 2 objects (3 sections); compressed in 1 object: compile with -gz=none\n\nstatus 0",
+        "a.out ",
+    ),
+    // Sections of one name are told after each other, in the order in which names come.
+    (
+        "a.o odd.o strange.o",
+        SOUND,
+        "stat a.out\nread a.o\nread odd.o\nread strange.o\nopen a.out\nnew .a.out.ld-0\nmode 100755\nrename .a.out.ld-0 to a.out\nout: \nerr: ld: odd.o: .debug_info: some relocations of debug data can't be done\nld: strange.o: .debug_info: some relocations of debug data can't be done\nld: strange.o: .debug_line: some relocations of debug data can't be done\n\nstatus 0",
         "a.out ",
     ),
     (
@@ -358,6 +397,47 @@ fn checked(alloc: Global, change: &Change, line: &str) -> Result<(Outcome, usize
     let check = format!(in alloc; "{line} -Map=a.map --check")?;
     let run = run_program_line(alloc, Program::Debug, &stored, SOUND, &check)?;
     Ok((run, at))
+}
+
+/// An entry that is an address, without any section.
+const NOWHERE: NamedSymbol<'static> = NamedSymbol {
+    st_info: 0x10,
+    st_shndx: SHN_ABS,
+    st_value: 0x40_1000,
+    ..START
+};
+
+/// What the check of an image for tools prints that has no section but the tables.
+fn checked_without_sections(alloc: Global) -> Result<Outcome, Fail> {
+    let object = relocatable(alloc, &[], &[NOWHERE], &[])?;
+    let input = StoredFile::sound("a.o", &object);
+    let run = run_program_line(alloc, Program::Debug, &[input], SOUND, "a.o -Map=a.map")?;
+    let [image, map] = run.made.as_slice() else {
+        return Err(Fail::from("two files"));
+    };
+    let stored = [
+        input,
+        StoredFile::sound("a.out", &image.bytes),
+        StoredFile::sound("a.map", &map.bytes),
+    ];
+    run_program_line(
+        alloc,
+        Program::Debug,
+        &stored,
+        SOUND,
+        "a.o -Map=a.map --check",
+    )
+}
+
+#[test]
+fn an_image_for_tools_without_sections_is_right(rt: HostRuntime) -> Result<(), Fail> {
+    let run = checked_without_sections(rt.alloc())?;
+    assert!(rt;
+        run.told.ends_with("out: yes\n\nerr: \nstatus 0"),
+        "{}",
+        run.told
+    );
+    Ok(())
 }
 
 #[test]

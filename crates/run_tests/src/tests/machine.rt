@@ -132,6 +132,7 @@ pub struct Disk<'a> {
     made: RefCell<Vec<InputFile>>,
     passed: RefCell<u64>,
     interrupted: RefCell<bool>,
+    draws: RefCell<u64>,
     journal: RefCell<String>,
 }
 
@@ -145,6 +146,7 @@ impl<'a> Disk<'a> {
             made: RefCell::new(Vec::new(alloc)),
             passed: RefCell::new(0),
             interrupted: RefCell::new(false),
+            draws: RefCell::new(0),
             journal: RefCell::new(String::new(alloc)),
         }
     }
@@ -156,6 +158,19 @@ impl<'a> Disk<'a> {
             self.passed.into_inner(),
             self.journal.into_inner(),
         )
+    }
+
+    /// How often random bytes were asked for.
+    pub fn draws(&self) -> io::Result<u64> {
+        let draws = self.draws.try_borrow()?;
+        Ok(*draws)
+    }
+
+    /// Counts that random bytes are asked for.
+    fn draw(&self) -> io::Result<()> {
+        let mut draws = self.draws.try_borrow_mut()?;
+        *draws = draws.saturating_add(1);
+        Ok(())
     }
 
     /// Adds a line to the journal.
@@ -449,6 +464,7 @@ impl Alloc for Machine<'_> {
 
 impl RandomSource for Machine<'_> {
     fn fill_bytes(&self, buf: &mut [u8]) -> io::Result<()> {
+        self.disk.draw()?;
         match self.random {
             Some(byte) => Ok(buf.fill(byte)),
             None => Err(io::Error::from(ErrorKind::Unsupported)),

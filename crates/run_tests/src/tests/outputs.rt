@@ -15,6 +15,14 @@ fn stored<'a>(path: &'a str, kind: Kind) -> StoredFile<'a> {
     }
 }
 
+/// One that can't be opened.
+fn locked<'a>(path: &'a str, kind: Kind, why: ErrorKind) -> StoredFile<'a> {
+    StoredFile {
+        locked: Some(why),
+        ..stored(path, kind)
+    }
+}
+
 /// The folder takes no new file.
 const LOCKED: NewFiles = NewFiles {
     locked: Some(("", ErrorKind::PermissionDenied)),
@@ -81,6 +89,17 @@ const IMAGE_HELD: NewFiles = NewFiles {
     ..SOUND
 };
 
+/// What is at the image's path is on another file system, or may not be replaced.
+const IMAGE_ELSEWHERE: NewFiles = NewFiles {
+    bound: Some(("a.out", ErrorKind::CrossesDevices)),
+    ..SOUND
+};
+
+const IMAGE_DENIED: NewFiles = NewFiles {
+    bound: Some(("a.out", ErrorKind::PermissionDenied)),
+    ..SOUND
+};
+
 /// Every other write is interrupted.
 const INTERRUPTED: NewFiles = NewFiles {
     interrupts: true,
@@ -92,7 +111,7 @@ const SLOW: NewFiles = NewFiles { step: 1, ..SOUND };
 
 /// Lines, how new files answer, all that comes of a run but the bytes of files, and the paths of
 /// what it leaves.
-static ROWS: [(&str, NewFiles, &str, &str); 31] = [
+static ROWS: [(&str, NewFiles, &str, &str); 37] = [
     // The old image and the old map are replaced once both new ones are whole.
     (
         "-s a.o",
@@ -195,6 +214,18 @@ static ROWS: [(&str, NewFiles, &str, &str); 31] = [
         "stat a.out\nread a.o\nopen a.out\nnew .a.out.ld-0\nmode 100755\nrename .a.out.ld-0 to a.out\nread .a.out.ld-0\nremove .a.out.ld-0\nout: \nerr: ld: cannot write a.out\n\nstatus 3",
         "",
     ),
+    (
+        "-s a.o",
+        IMAGE_ELSEWHERE,
+        "stat a.out\nread a.o\nopen a.out\nnew .a.out.ld-0\nmode 100755\nrename .a.out.ld-0 to a.out\nread .a.out.ld-0\nremove .a.out.ld-0\nout: \nerr: ld: cannot write a.out\n\nstatus 3",
+        "",
+    ),
+    (
+        "-s a.o",
+        IMAGE_DENIED,
+        "stat a.out\nread a.o\nopen a.out\nnew .a.out.ld-0\nmode 100755\nrename .a.out.ld-0 to a.out\nread .a.out.ld-0\nremove .a.out.ld-0\nout: \nerr: ld: cannot write a.out\n\nstatus 3",
+        "",
+    ),
     // Where memory is refused for the map there is no image either.
     (
         "-s a.o -Map=a.map",
@@ -221,7 +252,32 @@ static ROWS: [(&str, NewFiles, &str, &str); 31] = [
         "stat a.out\nstat a.map\nread a.o\nopen a.out\nnew .a.out.ld-0\nmode 100755\nopen a.map\nnew .a.map.ld-0\nrename .a.out.ld-0 to a.out\nrename .a.map.ld-0 to a.map\nremove .a.map.ld-0\nout: \nerr: ld: cannot write a.map\n\nstatus 3",
         "a.out ",
     ),
+    // A file that may not be written, and a program that runs, are replaced.
+    (
+        "-s a.o -o readonly",
+        SOUND,
+        "stat readonly\nread a.o\nopen readonly\nstat readonly\nnew .readonly.ld-0\nmode 100755\nrename .readonly.ld-0 to readonly\nout: \nerr: \nstatus 0",
+        "readonly ",
+    ),
+    (
+        "-s a.o -o running",
+        SOUND,
+        "stat running\nread a.o\nopen running\nstat running\nnew .running.ld-0\nmode 100755\nrename .running.ld-0 to running\nout: \nerr: \nstatus 0",
+        "running ",
+    ),
     // What is no regular file is written as it is, and has its mode.
+    (
+        "-s a.o -o shut",
+        SOUND,
+        "stat shut\nread a.o\nopen shut\nstat shut\nout: \nerr: ld: cannot write shut\n\nstatus 3",
+        "",
+    ),
+    (
+        "-s a.o -o /proc/self/fd/1",
+        SOUND,
+        "stat /proc/self/fd/1\nread a.o\nlink /proc/self/fd/1\nappend /proc/self/fd/1\nout: \nerr: \nstatus 0",
+        "/proc/self/fd/1 ",
+    ),
     (
         "-s a.o -o null -Map=a.map",
         SOUND,
@@ -309,6 +365,10 @@ fn outcome(alloc: Global, line: &str, new_files: NewFiles) -> Result<(String, St
         stored("null", Kind::Device),
         stored("folder", Kind::Folder),
         stored("/dev/stdout", Kind::Link),
+        stored("/proc/self/fd/1", Kind::Link),
+        locked("readonly", Kind::Regular, ErrorKind::PermissionDenied),
+        locked("running", Kind::Regular, ErrorKind::ExecutableFileBusy),
+        locked("shut", Kind::Device, ErrorKind::PermissionDenied),
         stored("/dev/fd/9", Kind::Dangling),
         StoredFile {
             torn: Some((1, ErrorKind::StorageFull)),

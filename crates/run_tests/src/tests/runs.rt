@@ -26,7 +26,7 @@ pub enum Program {
 
 impl Program {
     /// Runs a program on a system, and answers its status.
-    fn start(self, machine: &Machine<'_>, out: &mut Vec<u8>, err: &mut Vec<u8>) -> u8 {
+    pub fn start(self, machine: &Machine<'_>, out: &mut Vec<u8>, err: &mut Vec<u8>) -> u8 {
         match self {
             Program::Ld => run_args(machine, out, err),
             Program::Debug => run_debug_args(machine, out, err),
