@@ -8,6 +8,7 @@ pub mod OwnSpelled
 pub mod Tabled
 pub mod Links
 pub mod Listings
+pub mod LevelLaws
 pub mod NameKeyLaws
 pub mod InOrderLaws
 pub mod PlaceLines

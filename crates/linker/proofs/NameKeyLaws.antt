@@ -19,7 +19,7 @@ use Rattle.std.proofs.lemmas.List.Sorted.{All-permutation, IsPermutation-map, ra
 use Rattle.std.proofs.lemmas.Nat.{mul-add-lt}
 use Rattle.std.proofs.Math.Nat.{mul-le-mul_right, pow-le-pow_right}
 use Rattle.resolve.proofs.Located.{All-at}
-use Rattle.linker.specs.NameKeys.{AreKeyed, IsKeyed, IsOrderOf, digit, held_names, key_list, key_with, name_key, name_of, rest_of}
+use Rattle.linker.specs.NameKeys.{digit, key_with, name_key}
 use Rattle.linker.specs.declared.name_order.Keyed.{Keyed}
 use Rattle.linker.specs.declared.name_order.Names.{Names}
 
@@ -44,10 +44,10 @@ key_below (suc n) (x ∷ xs) all =
     let sum = mul-add-lt (x + 1) (257 ^ n) (key_with n xs) 257 (omega (arith, byte)) rest in
     omega (arith, sum, pow-suc 257 n)
 
-is_less : (a b : ℕ) → a < b → nat_cmp a b ≡ Less
+pub is_less : (a b : ℕ) → a < b → nat_cmp a b ≡ Less
 is_less a b less = by_ranked (a < b) (a ≡ b) (b < a) (nat_cmp a b) (ranked a b (nat_cmp a b) refl) (λ e _. e) (λ e p. absurd (omega (arith, less, p))) (λ e p. absurd (omega (arith, less, p)))
 
-is_equal : (a b : ℕ) → a ≡ b → nat_cmp a b ≡ Equal
+pub is_equal : (a b : ℕ) → a ≡ b → nat_cmp a b ≡ Equal
 is_equal a b same = by_ranked (a < b) (a ≡ b) (b < a) (nat_cmp a b) (ranked a b (nat_cmp a b) refl) (λ e p. absurd (omega (arith, same, p))) (λ e _. e) (λ e p. absurd (omega (arith, same, p)))
 
 is_greater : (a b : ℕ) → b < a → nat_cmp a b ≡ Greater
@@ -149,59 +149,3 @@ range_more n =
     sym (map-id (range_with_len 0 (n + 1)))
     ∙ map-range_with_len_more (λ j. j) 0 n n (omega arith)
     ∙ ap (λ (js : List ℕ). js ++ n ∷ []) (map-id (range_with_len 0 n))
-
--- a name as it is compared
-abbrev spelled : List ℕ → List ℕ
-spelled name = name_key name ∷ (name_key (drop 7 name) ∷ (name_key (drop 7 (drop 7 name)) ∷ rest_of name))
-
-spelled_is : (name : List ℕ) (k : Keyed) → IsKeyed name k → k.first ∷ (k.second ∷ (k.third ∷ rest_of name)) ≡ spelled name
-spelled_is name k is =
-    ap (λ (a : ℕ). a ∷ (k.second ∷ (k.third ∷ rest_of name))) is.first
-    ∙ ap (λ (b : ℕ). name_key name ∷ (b ∷ (k.third ∷ rest_of name))) is.second
-    ∙ ap (λ (c : ℕ). name_key name ∷ (name_key (drop 7 name) ∷ (c ∷ rest_of name))) is.third
-
-spelled_order : (xs ys : List ℕ) → All (λ b. b < 256) xs → All (λ b. b < 256) ys → slice_cmp nat_cmp (spelled xs) (spelled ys) ≡ slice_cmp nat_cmp xs ys
-spelled_order xs ys ax ay =
-    keys_order 7 xs ys (name_key (drop 7 xs) ∷ (name_key (drop 7 (drop 7 xs)) ∷ rest_of xs)) (name_key (drop 7 ys) ∷ (name_key (drop 7 (drop 7 ys)) ∷ rest_of ys)) ax ay
-    (keys_order 7 (drop 7 xs) (drop 7 ys) (name_key (drop 7 (drop 7 xs)) ∷ rest_of xs) (name_key (drop 7 (drop 7 ys)) ∷ rest_of ys) (behind 7 xs ax) (behind 7 ys ay)
-    (keys_order 7 (drop 7 (drop 7 xs)) (drop 7 (drop 7 ys)) (rest_of xs) (rest_of ys) (behind 7 (drop 7 xs) (behind 7 xs ax)) (behind 7 (drop 7 ys) (behind 7 ys ay)) refl))
-  where
-    behind : (n : ℕ) (zs : List ℕ) → All (λ b. b < 256) zs → All (λ b. b < 256) (drop n zs)
-    behind n zs all = All-drop (λ b. b < 256) n zs all
-
--- keys are in the order of their names
-module _ (n : Names) where
-  same_order : (j k : Keyed) → IsKeyed (name_of n j.position) j → IsKeyed (name_of n k.position) k → slice_cmp nat_cmp (key_list n j) (key_list n k) ≡ slice_cmp nat_cmp (name_of n j.position) (name_of n k.position)
-  same_order j k a b =
-      ap (λ (us : List ℕ). slice_cmp nat_cmp us (key_list n k)) (spelled_is (name_of n j.position) j a)
-      ∙ ap (λ (vs : List ℕ). slice_cmp nat_cmp (spelled (name_of n j.position)) vs) (spelled_is (name_of n k.position) k b)
-      ∙ spelled_order (name_of n j.position) (name_of n k.position) a.bytes b.bytes
-
-  pub order_of : (ks js : List Keyed) → AreKeyed n ks → IsPermutation ks js → IsSortedByKey (key_list n) (slice_cmp nat_cmp) js → IsOrderOf (held_names n) js
-  order_of ks js are moved up = record {
-    positions = subst (λ (ps : List ℕ). IsPermutation ps (map (λ k. k.position) js)) are.positions (IsPermutation-map (λ k. k.position) ks js moved);
-    rising = λ k d low within.
-        let each : All (λ k. IsKeyed (name_of n k.position) k) js = All-permutation (λ (k : Keyed). IsKeyed (name_of n k.position) k) ks js moved are.keys in
-        sym (ap is_lt (same_order (get_or js (k + 1) d) (get_or js k d) (each (k + 1) d within) (each k d (omega (arith, within)))))
-        ∙ up k d low within;
-  }
-
--- what a sort by a closure ensures that compares keys
-pub sorted_by_list :
-    {F : Type 0} {g : Mut F (Bor Keyed × (Bor Keyed × Unit {0})) Ordering} {f : F} (n : Names) (ks : List Keyed) →
-    ((lt : Keyed → Keyed → Bool) → IsStrictWeakOrder lt → ComparesAs g lt f → IsSortedBy lt ks) →
-    ((a : Bor Keyed × (Bor Keyed × Unit {0})) (r : Ordering) (f' : F) → Called g f a r f' →
-    (r ≡ slice_cmp nat_cmp (key_list n a.0.now) (key_list n a.1.0.now)) × (f' ≡ f)) →
-    IsSortedByKey (key_list n) (slice_cmp nat_cmp) ks
-sorted_by_list {g = g} {f = f} n ks up calls =
-    up (λ x y. is_lt (slice_cmp nat_cmp (key_list n x) (key_list n y))) (ranks_by nat_list_cmp_total (key_list n))
-    (always_returns_same g (λ a r. is_lt r ≡ is_lt (slice_cmp nat_cmp (key_list n a.0.now) (key_list n a.1.0.now))) f
-    (λ a r f' k. (ap is_lt (calls a r f' k).0, (calls a r f' k).1)))
-
--- one more key
-pub more_keys : (n : Names) (ks : List Keyed) (i : ℕ) (k : Keyed) → map (λ k. k.position) ks ≡ range_with_len 0 i → k.position ≡ i → map (λ k. k.position) (ks ++ k ∷ []) ≡ range_with_len 0 (i + 1)
-more_keys n ks i k are is =
-    map-append (λ k. k.position) ks (k ∷ [])
-    ∙ ap (λ (ps : List ℕ). ps ++ k.position ∷ []) are
-    ∙ ap (λ (p : ℕ). range_with_len 0 i ++ p ∷ []) is
-    ∙ sym (range_more i)

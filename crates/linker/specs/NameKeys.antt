@@ -1,9 +1,9 @@
 -- The order of names, by numbers that are made of their first bytes.
-use Rattle.std.specs.Prelude.{◌≡◌, ℕ, zero, suc, ◌+◌, ◌*◌, ◌^◌, ◌<◌, List, [], ◌∷◌, ◌++◌, Option, None, Some, All, IsPermutation, drop, length, map, slice_index_or}
+use Rattle.std.specs.Prelude.{◌≡◌, ℕ, zero, suc, ◌+◌, ◌*◌, ◌^◌, ◌-◌, ◌<◌, List, [], ◌∷◌, ◌++◌, Option, None, Some, All, AllPairs, IsPermutation, false, drop, length, map, slice_index_or, take}
 use Rattle.std.specs.Cmp.Lexicographic.{slice_cmp}
 use Rattle.std.specs.List.{range_with_len}
 use Rattle.std.specs.List.Sorted.{IsSortedByKey}
-use Rattle.std.specs.Ordering.{nat_cmp}
+use Rattle.std.specs.Ordering.{is_lt, nat_cmp}
 use Rattle.resolve.specs.Chosen.{defined_in}
 use Rattle.linker.specs.declared.name_order.Keyed.{Keyed}
 use Rattle.linker.specs.declared.name_order.Names.{Names}
@@ -29,25 +29,41 @@ key_with (suc n) (byte ∷ bytes) = (byte + 1) * 257 ^ n + key_with n bytes
 abbrev pub name_key : List ℕ → ℕ
 name_key bytes = key_with 7 bytes
 
--- the bytes behind those of three numbers
-abbrev pub rest_of : List ℕ → List ℕ
-rest_of bytes = drop 7 (drop 7 (drop 7 bytes))
+-- the bytes of a name from an offset on
+abbrev pub behind_of : Names → ℕ → Keyed → List ℕ
+behind_of n offset k = drop offset (name_of n k.position)
 
--- the numbers of a name are made of its bytes
-pub record IsKeyed (name : List ℕ) (k : Keyed) : Type 0 where
-  pub first : k.first ≡ name_key name
-  pub second : k.second ≡ name_key (drop 7 name)
-  pub third : k.third ≡ name_key (drop 7 (drop 7 name))
-  pub bytes : All (λ b. b < 256) name
+abbrev pub positions : List Keyed → List ℕ
+positions ks = map (λ k. k.position) ks
 
--- what is compared of a name: its numbers, then the bytes behind
-abbrev pub key_list : Names → Keyed → List ℕ
-key_list n k = k.first ∷ (k.second ∷ (k.third ∷ rest_of (name_of n k.position)))
+-- the number of a name is made of its bytes from an offset on
+pub record IsKeyed (n : Names) (offset : ℕ) (k : Keyed) : Type 0 where
+  pub key : k.key ≡ name_key (behind_of n offset k)
+  pub bytes : All (λ b. b < 256) (behind_of n offset k)
 
--- all positions of names, with their numbers
-pub record AreKeyed (n : Names) (ks : List Keyed) : Type 0 where
-  pub positions : map (λ k. k.position) ks ≡ range_with_len 0 (length (held_names n))
-  pub keys : All (λ k. IsKeyed (name_of n k.position) k) ks
+abbrev pub run_in : ℕ → ℕ → List Keyed → List Keyed
+run_in from to ks = take (to - from) (drop from ks)
+
+abbrev pub key_at : List Keyed → ℕ → ℕ
+key_at ks i = (slice_index_or ks i (record { key = 0; position = 0 })).key
+
+-- two names are in the order of what is behind an offset; so are all of some
+abbrev pub IsOrderBehind : Names → ℕ → ℕ → ℕ → Type 0
+IsOrderBehind n offset i j = slice_cmp nat_cmp (drop offset (name_of n i)) (drop offset (name_of n j)) ≡ slice_cmp nat_cmp (name_of n i) (name_of n j)
+
+abbrev pub AreAlike : Names → ℕ → List ℕ → Type 0
+AreAlike n offset ps = All (λ i. All (IsOrderBehind n offset i) ps) ps
+
+-- a name isn't after another one; so it is of each and all later ones
+abbrev pub IsNotAfter : Names → ℕ → ℕ → Type 0
+IsNotAfter n i j = is_lt (slice_cmp nat_cmp (name_of n j) (name_of n i)) ≡ false
+
+abbrev pub IsInOrder : Names → List Keyed → Type 0
+IsInOrder n ks = AllPairs (λ j k. IsNotAfter n j.position k.position) ks
+
+pub record IsSortedRun (n : Names) (old new : List Keyed) : Type 0 where
+  pub moved : IsPermutation (positions old) (positions new)
+  pub rising : IsInOrder n new
 
 -- all positions of names in the order of the names
 pub record IsOrderOf (names : List (List ℕ)) (ks : List Keyed) : Type 0 where

@@ -1,10 +1,10 @@
-//! The order of the names of definitions. Sorting moves small keys, which have the first bytes of a name as numbers, and looks
-//! into the names only where these are equal.
-ghost use Rattle.std.specs.Prelude.{◌≡◌, ◌∷◌, ◌<◌, All, IfOk, drop, slice_get};
+//! The order of the names of definitions. Sorting moves small keys, a number that is made of seven bytes of a name and its position;
+//! only names that have one number there are read again, for the next seven bytes.
+ghost use Rattle.std.specs.Prelude.{◌≡◌, ◌≢◌, ◌<◌, ◌≤◌, ◌*◌, All, IfOk, drop, length, slice_get};
 ghost use Rattle.std.specs.Cmp.Lexicographic.{slice_cmp};
-ghost use Rattle.std.specs.List.Sorted.{IsSortedByKey};
+ghost use Rattle.std.specs.List.{range_with_len};
 ghost use Rattle.std.specs.Ordering.{nat_cmp};
-ghost use Rattle.linker.specs.NameKeys.{AreKeyed, IsKeyed, IsOrderOf, digit, held_names, key_list, name_key, name_of, rest_of};
+ghost use Rattle.linker.specs.NameKeys.{AreAlike, IsKeyed, IsOrderOf, IsSortedRun, behind_of, digit, held_names, key_at, name_key, name_of, positions, run_in};
 
 use elf_model::Bound;
 use resolve::Definitions;
@@ -18,12 +18,10 @@ pub struct Names<'c, 'a> {
     pub linkers: &'c [(&'a [u8], Bound)],
 }
 
-/// The position of a name, with three numbers that are made of its first 21 bytes.
+/// The position of a name, with a number that is made of some of its bytes.
 #[derive(Clone, Copy, Debug)]
 pub struct Keyed {
-    first: u64,
-    second: u64,
-    third: u64,
+    key: u64,
     pub position: usize,
 }
 
@@ -94,62 +92,96 @@ fn key(name: &[u8]) -> u64
     }
 }
 
-/// The bytes of a name behind those that a number is made of.
-fn behind(name: &[u8]) -> &[u8]
-    ensures { result.now ≡ drop 7 name.now }
+/// How many numbers in turn are made of names that begin alike, before the bytes behind these are compared.
+const MOST_LEVELS: usize = 32;
+
+/// How many names are compared at once.
+const FEW: usize = 6;
+
+/// The bytes of a name from an offset on.
+fn behind(name: &[u8], offset: usize) -> &[u8]
+    ensures { result.now ≡ drop offset name.now }
 {
-    if name.len() < DIGITS {
+    if name.len() < offset {
         return &[];
     }
-    let (_, rest) = name.split_at(DIGITS);
+    let (_, rest) = name.split_at(offset);
     rest
 }
 
-/// The bytes of a name behind those that its three numbers are made of.
-fn rest(name: &[u8]) -> &[u8]
-    ensures { result.now ≡ rest_of name.now }
+/// The order of two names from an offset on.
+fn compare(names: Names<'_, '_>, offset: usize, a: &Keyed, b: &Keyed) -> Ordering
+    ensures { result ≡ slice_cmp nat_cmp (behind_of names.entry offset a.now)
+        (behind_of names.entry offset b.now) }
 {
-    behind(behind(behind(name)))
+    behind(name_at(names, a.position), offset).cmp(&behind(name_at(names, b.position), offset))
 }
 
-/// A name at a position, with its numbers.
-fn with_keys(name: &[u8], position: usize) -> Keyed
-    ensures position { result.position ≡ position }
-    ensures keys { IsKeyed name.now result }
+/// Gives each name the number of its bytes from an offset on.
+fn number(names: Names<'_, '_>, offset: usize, run: &mut [Keyed])
+    ensures positions { positions run.new ≡ positions run.old }
+    ensures keys { All (IsKeyed names.entry offset) run.new }
 {
-    let second = behind(name);
-    Keyed {
-        first: key(name),
-        second: key(second),
-        third: key(behind(second)),
-        position,
+    for i in 0..run.len() {
+        run[i].key = key(behind(name_at(names, run[i].position), offset));
     }
 }
 
-/// The order of two names by their numbers, and where these are equal, by the bytes behind.
-fn compare(names: Names<'_, '_>, a: &Keyed, b: &Keyed) -> Ordering
-    ensures { result ≡ slice_cmp nat_cmp (key_list names.entry a.now) (key_list names.entry b.now) }
+/// Where the names end that have the number of one.
+fn run_end(keys: &[Keyed], from: usize) -> usize
+    requires { from < length keys.now }
+    ensures behind { from < result }
+    ensures within { result ≤ length keys.now }
+    ensures same { All (λ k. k.key ≡ key_at keys.now from) (run_in from result keys.now) }
+    ensures last { result < length keys.now → key_at keys.now result ≢ key_at keys.now from }
 {
-    if a.first != b.first {
-        return a.first.cmp(&b.first);
+    let mut to = from + 1;
+    while to < keys.len() && keys[to].key == keys[from].key {
+        to += 1;
     }
-    if a.second != b.second {
-        return a.second.cmp(&b.second);
-    }
-    if a.third != b.third {
-        return a.third.cmp(&b.third);
-    }
-    rest(name_at(names, a.position)).cmp(&rest(name_at(names, b.position)))
+    to
 }
 
-/// The positions of names, with their numbers.
-fn positions(alloc: Global, names: Names<'_, '_>) -> Result<Vec<Keyed>, AllocError>
-    ensures { IfOk result (λ v. AreKeyed names.entry v.items) }
+/// Sorts names by comparing them from an offset on.
+fn sort_few(names: Names<'_, '_>, run: &mut [Keyed], offset: usize)
+    requires { AreAlike names offset (positions run.old) }
+    ensures { IsSortedRun names.entry run.old run.new }
+{
+    run.sort_unstable_by(|a, b| compare(names, offset, a, b));
+}
+
+/// Sorts names that are alike up to a level: by the number of their bytes there, and those of one number at the next level.
+fn sort_level(names: Names<'_, '_>, run: &mut [Keyed], level: usize)
+    requires low { level ≤ 32 }
+    requires alike { AreAlike names (7 * level) (positions run.old) }
+    ensures { IsSortedRun names.entry run.old run.new }
+{
+    let offset = DIGITS * level;
+    if run.len() <= FEW || level >= MOST_LEVELS {
+        sort_few(names, run, offset);
+        return;
+    }
+    number(names, offset, run);
+    run.sort_unstable_by_key(|keyed| keyed.key);
+    let mut from = 0;
+    while from < run.len() {
+        let to = run_end(run, from);
+        let (_, rest) = run.split_at_mut(from);
+        let (alike, _) = rest.split_at_mut(to - from);
+        sort_level(names, alike, level + 1);
+        from = to;
+    }
+}
+
+/// The positions of names.
+fn all_positions(alloc: Global, names: Names<'_, '_>) -> Result<Vec<Keyed>, AllocError>
+    ensures { IfOk result (λ v. positions v.items
+        ≡ range_with_len 0 (length (held_names names.entry))) }
 {
     let count = names.symbols.len() + names.linkers.len();
     let mut keys = Vec::with_capacity(alloc, count)?;
     for position in 0..count {
-        keys.push(with_keys(name_at(names, position), position))?;
+        keys.push(Keyed { key: 0, position })?;
     }
     Ok(keys)
 }
@@ -158,7 +190,7 @@ fn positions(alloc: Global, names: Names<'_, '_>) -> Result<Vec<Keyed>, AllocErr
 pub fn order(alloc: Global, names: Names<'_, '_>) -> Result<Vec<Keyed>, AllocError>
     ensures { IfOk result (λ v. IsOrderOf (held_names names.entry) v.items) }
 {
-    let mut keys = positions(alloc, names)?;
-    keys.sort_unstable_by(|a, b| compare(names, a, b));
+    let mut keys = all_positions(alloc, names)?;
+    sort_level(names, keys.as_mut_slice(), 0);
     Ok(keys)
 }
