@@ -1,12 +1,15 @@
 -- Sections of debug data that a device takes one after the other.
-use Rattle.std.proofs.Common.{◌≡◌, ◌∙◌, ◌+◌, ◌<◌, ◌≤◌, ◌++◌, ℕ, List, [], ◌∷◌, ap, append_assoc, drop, get_or, length, refl, subst, sym}
+use Rattle.std.proofs.Common.{◌≡◌, ◌∙◌, ◌+◌, ◌<◌, ◌≤◌, ◌++◌, ℕ, List, [], ap, append_assoc, drop, get_or, length, refl, subst, sym}
 use Rattle.std.specs.Prelude.{Option}
+use Rattle.std.specs.Option.{option_to_list}
+use Rattle.elf_model.specs.declared.references.SectionRef.{SectionRef}
 use Rattle.std.proofs.lemmas.List.{append-nil, at_drop_all, at_drop_more}
 use Rattle.image_write.proofs.StreamLaws.{took_more, took_nothing}
 use Rattle.image_write.specs.Streams.{Took, TookPart}
 use Rattle.debug_image.specs.DebugValues.{Data, all_bytes, chunk_bytes}
 use Rattle.debug_image.specs.DebugViews.{chunk_view, chunk_views}
 use Rattle.debug_image.specs.declared.chunks.Chunk.{Chunk}
+use Rattle.debug_main.specs.DebugFiles.{left_at, left_of}
 use Rattle.debug_main.specs.Written.{Written}
 
 pub none_written : (d : Data) (cs : List Chunk) (t : Option (List ℕ)) → Written d cs 0 t t
@@ -44,3 +47,15 @@ part_written d cs k x a b c lt w part =
           ∙ sym (append_assoc w.front part.front (part.rest ++ behind)));
       took = took_more a b c w.front part.front w.took part.took;
     }
+
+-- the sections that are told, from a section on
+pub left_next :
+    (d : Data) (cs : List Chunk) (k : ℕ) (x : Chunk) (left all : List SectionRef) → k < length cs → left ++ left_of d (chunk_views (drop k cs)) ≡ all →
+    (left ++ option_to_list (left_at d (chunk_view (get_or cs k x)))) ++ left_of d (chunk_views (drop (k + 1) cs)) ≡ all
+left_next d cs k x left all lt e =
+    append_assoc left (option_to_list (left_at d (chunk_view (get_or cs k x)))) (left_of d (chunk_views (drop (k + 1) cs)))
+    ∙ (ap (λ (l : List SectionRef). left ++ l) (sym (at_drop_more (λ (l : List Chunk). left_of d (chunk_views l)) cs k x lt)) ∙ e)
+
+pub left_whole : (d : Data) (cs : List Chunk) (k : ℕ) (left all : List SectionRef) → length cs ≤ k → left ++ left_of d (chunk_views (drop k cs)) ≡ all → left ≡ all
+left_whole d cs k left all le e =
+    sym (append-nil left) ∙ (ap (λ (l : List SectionRef). left ++ l) (sym (at_drop_all (λ (l : List Chunk). left_of d (chunk_views l)) cs k le)) ∙ e)

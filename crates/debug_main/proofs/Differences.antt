@@ -1,16 +1,15 @@
 -- What was compared with an image, and what that says of it.
-use Rattle.std.proofs.Common.{◌≡◌, ◌≢◌, ◌∙◌, ◌+◌, ◌<◌, ◌≤◌, ◌++◌, ℕ, List, [], ◌∷◌, ap, append_assoc, arith, drop, drop_at, length, refl, sym, subst, take, take_at}
+use Rattle.std.proofs.Common.{◌≡◌, ◌≢◌, ◌∙◌, ◌≤◌, ◌++◌, ℕ, List, [], ◌∷◌, ap, append_assoc, arith, drop, drop_at, length, refl, sym, subst, take, take_at}
 use Rattle.std.specs.Prelude.{Err, IfErr, IfSome, None, Ok, OnErr, OnOk, Option, Result, Some}
 use Rattle.std.specs.Option.{option_map, option_to_list}
 use Rattle.std.specs.List.{slice_get}
 use Rattle.std.proofs.Math.Seq.{take-append_seam}
 use Rattle.std.proofs.lemmas.List.{append-nil, length-take}
-use Rattle.std.proofs.lemmas.Option.{slice_get_past}
 use Rattle.image_write.specs.Streams.{Took, TookPart}
 use Rattle.image_write.specs.declared.sink.WriteFault.{WriteFault}
 use Rattle.image_write.specs.declared.sink.WriteFault.TheVariants.{Memory, Device}
 use Rattle.debug_main.specs.Comparisons.{marked, taken_of}
-use Rattle.debug_main.specs.Verdicts.{Compares, IsDifference, IsFirstWrong}
+use Rattle.debug_main.specs.Verdicts.{Compares, IsFirstWrong}
 use Rattle.debug_main.specs.declared.verdict.Difference.{Difference}
 
 -- a file begins with what was taken, and where no byte was wrong that is all of it

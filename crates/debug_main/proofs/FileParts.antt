@@ -1,11 +1,10 @@
 -- The parts of an image for tools, put together, are its file.
-use Rattle.std.proofs.Common.{◌≡◌, ◌∙◌, ◌++◌, List, ℕ, ap}
+use Rattle.std.proofs.Common.{◌≡◌, List}
 use Rattle.elf_model.specs.Link.Meaning.{Meaning}
 use Rattle.image_write.specs.Linkages.{Linked}
 use Rattle.debug_image.specs.DebugImage as image
 use Rattle.debug_image.specs.DebugLayouts.{data_in}
-use Rattle.debug_image.specs.DebugValues.{Data, all_bytes}
-use Rattle.debug_image.specs.DebugViews.{chunk_views, row_views}
+use Rattle.debug_image.specs.DebugViews.{row_views}
 use Rattle.debug_image.specs.declared.debug_file.DebugParts.{DebugParts}
 use Rattle.debug_image.specs.declared.debug_file.Wanted.{Wanted}
 use Rattle.debug_image.specs.declared.debug_values.DataLayout.{DataLayout}

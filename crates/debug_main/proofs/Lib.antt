@@ -2,4 +2,5 @@ pub mod ChunkSteps
 pub mod Devices
 pub mod Differences
 pub mod FileParts
+pub mod OneImage
 pub mod StripFirst

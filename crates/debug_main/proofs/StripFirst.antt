@@ -1,9 +1,8 @@
 -- A word in front that asks for no symbol table: the words behind it are read as without it.
-use Rattle.std.proofs.Common.{◌≡◌, ◌∙◌, ℕ, List, [], ◌∷◌, ◌++◌, ap, codes, refl, sym, subst}
-use Rattle.std.specs.Prelude.{Bool, true, false, Option, None, Some, Result, Ok, Err, if◌then◌else◌, is_some, not, ◌&&◌, ◌==◌, length, option_map}
+use Rattle.std.proofs.Common.{◌≡◌, ◌∙◌, ℕ, List, [], ◌∷◌, ◌++◌, ap, codes, refl}
+use Rattle.std.specs.Prelude.{Bool, true, false, None, Result, Ok, Err, if◌then◌else◌, is_some, not, ◌&&◌, ◌==◌, length, option_map}
 use Rattle.std.specs.Option.{option_to_list}
-use Rattle.elf_model.specs.Inputs.Command
-use Rattle.elf_model.specs.Inputs.Command.{Item, Plan, Phrase, Said, Source, Output, Entry, Undefined, Directory, Input, MapFile, Base, GroupStart, GroupEnd, WholeStart, WholeEnd, Check, Strip, NoEffect, and_then, command_of, is_archive, is_open, item_behind, items_behind, phrase_of, placed, plan_of_phrases, read_behind, source_in, split, whole_line}
+use Rattle.elf_model.specs.Inputs.Command.{Item, Plan, Phrase, Said, Output, Entry, Undefined, Directory, Input, MapFile, Base, GroupStart, GroupEnd, WholeStart, WholeEnd, Check, Strip, NoEffect, and_then, command_of, is_archive, is_open, item_behind, items_behind, phrase_of, placed, plan_of_phrases, read_behind, source_in, split, whole_line}
 use Rattle.elf_model.specs.declared.faults.CmdFault.{CmdFault}
 use Rattle.elf_model.specs.declared.faults.CmdFault.TheVariants.{GroupNesting, MissingValue, NoInput, NotArchiveInGroup}
 use Rattle.debug_main.specs.Words.{stripped}

@@ -1,5 +1,7 @@
 -- The file of an image for tools as it is written, part by part, and what is said of its debug data.
 use Rattle.std.specs.Prelude.{◌≡◌, ℕ, ◌++◌, Bool, cond, List, Option, None, Some}
+use Rattle.std.specs.List.{flat_map}
+use Rattle.std.specs.Option.{option_to_list}
 use Rattle.elf_model.specs.Link.Meaning.{Meaning}
 use Rattle.elf_model.specs.declared.references.SectionRef.{SectionRef}
 use Rattle.image_write.specs.Linkages.{Linked}
@@ -31,3 +33,7 @@ left_if is_left c = cond is_left (Some (record { object = record { 0 = c.place.p
 
 abbrev pub left_at : Data → Chunk → Option SectionRef
 left_at d c = left_if (has_left d c.place) c
+
+-- those of some sections
+abbrev pub left_of : Data → List Chunk → List SectionRef
+left_of d cs = flat_map (λ c. option_to_list (left_at d c)) cs

@@ -1,6 +1,6 @@
 -- The words of ld-debug: those of the linker's command, and -S, which asks for no debug data. What an option takes as its value
 -- is none of them.
-use Rattle.std.specs.Prelude.{◌≡◌, ℕ, Bool, true, not, ◌&&◌, List, [], ◌∷◌, ◌++◌, Option, Result, Ok, Err, codes}
+use Rattle.std.specs.Prelude.{◌≡◌, ℕ, Bool, true, not, ◌&&◌, List, ◌∷◌, Result, Ok, Err, codes}
 use Rattle.std.specs.List.{filter, flat_map, list_any}
 use Rattle.std.specs.Option.{is_none, option_to_list}
 use Rattle.std.specs.Str.{bytes_eq}

@@ -1,14 +1,15 @@
 //! The check of an image for tools: the image at its beginning is checked, with the words that ask for no symbol table, and what
 //! tools read is made again from the inputs and compared.
-ghost use Rattle.std.specs.Prelude.{◌≡◌, ◌≤◌, List, None, true, IfErr, IfOk, IfSome};
-ghost use Rattle.debug_image.specs.DebugImage.{debug_file};
+ghost use Rattle.std.specs.Prelude.{◌≡◌, ◌⊎◌, ◌≤◌, List, None, Some, true, false, IfErr, IfOk, IfSome};
+ghost use Rattle.debug_image.specs.DebugImage.{CanBeSaid, debug_file};
 ghost use Rattle.elf_model.specs.Inputs.Files.{files_of, words_of};
 ghost use Rattle.ld_main.specs.Program.{failure_status};
 ghost use Rattle.image_write.specs.Listings.{IsListing};
 ghost use Rattle.resolve.specs.Views.{meaning_views};
 ghost use Rattle.resolve.specs.declared.definition.Definition.{Definition};
 ghost use Rattle.debug_main.specs.Comparisons.{taken_of};
-ghost use Rattle.debug_main.specs.Verdicts.{Compares, IsFirstWrong, Says, SaysSome, TellsTables};
+ghost use Rattle.debug_main.specs.Verdicts.{Compares, IsFirstWrong, LacksSections, Says, SaysSome, TellsTables, is_memory};
+ghost use Rattle.debug_main.specs.declared.verdict.DebugVerdict.TheVariants.{NoTables};
 ghost use Rattle.debug_main.specs.Words.{IsStripped};
 
 use crate::comparing::Comparing;
@@ -28,7 +29,9 @@ use std::rt::Files;
 const PLAIN_SECTIONS: u16 = 4;
 
 /// Whether an image has sections for tools.
-fn has_sections(image: &[u8]) -> bool {
+fn has_sections(image: &[u8]) -> bool
+    ensures { result ≡ false → LacksSections image.now }
+{
     match FileHeader::read(View::new(image)) {
         Some(header) => header.e_shnum > PLAIN_SECTIONS,
         None => false,
@@ -63,8 +66,12 @@ fn compared(
     image: &[u8],
 ) -> Result<Option<Difference>, LinkError>
     requires { linkage.now.plan.strip ≡ true }
-    ensures { IfOk result (λ d. (names : List Definition) × IsListing linkage.now.objects names
+    ensures compared { IfOk result (λ d. (names : List Definition)
+        × IsListing linkage.now.objects names
         × Compares image.now (debug_file wanted linkage.now (meaning_views names)) d) }
+    ensures large { IfErr result (λ e. is_memory e ≡ false → (names : List Definition)
+        × IsListing linkage.now.objects names
+        × (¬ CanBeSaid wanted linkage.now (meaning_views names))) }
 {
     let names = definitions(alloc, linkage)?;
     let parts = made(alloc, linkage, &names, wanted)?;
@@ -78,6 +85,23 @@ fn compared(
     }
 }
 
+/// The verdict where there is no image for tools to compare with; a refusal for want of memory stays one.
+fn without_tables(error: LinkError) -> Result<DebugVerdict, AllocError>
+    ensures { IfOk result (λ v. (v ≡ NoTables None) × (is_memory error ≡ false)) }
+{
+    match error {
+        LinkError::Memory => Err(AllocError),
+        _ => Ok(DebugVerdict::NoTables(None)),
+    }
+}
+
+/// What is told of an image that differs from the one for tools: where, or that it has no sections for tools.
+fn told(image: &[u8], at: Difference) -> Option<Difference>
+    ensures { (result ≡ Some at) ⊎ ((result ≡ None) × LacksSections image.now) }
+{
+    if has_sections(image) { Some(at) } else { None }
+}
+
 /// Makes what tools read of a link again, and compares.
 fn tables_judged(
     alloc: Global,
@@ -86,17 +110,18 @@ fn tables_judged(
     words: &[String],
     wanted: Wanted,
     image: &[u8],
-) -> Result<DebugVerdict, LinkError>
+) -> Result<DebugVerdict, AllocError>
     requires { IsStripped (words_of words.now) }
     ensures { IfOk result (TellsTables (files_of files.now) (words_of words.now) wanted image.now) }
 {
-    if !has_sections(image) {
-        return Ok(DebugVerdict::NoTables(None));
-    }
-    let linkage = prepare_seeded(alloc, files, words, seed)?;
-    match compared(alloc, &linkage, wanted, image)? {
-        None => Ok(DebugVerdict::Yes),
-        difference => Ok(DebugVerdict::NoTables(difference)),
+    let linkage = match prepare_seeded(alloc, files, words, seed) {
+        Ok(linkage) => linkage,
+        Err(error) => return without_tables(error),
+    };
+    match compared(alloc, &linkage, wanted, image) {
+        Ok(None) => Ok(DebugVerdict::Yes),
+        Ok(Some(at)) => Ok(DebugVerdict::NoTables(told(image, at))),
+        Err(error) => without_tables(error),
     }
 }
 
@@ -117,11 +142,7 @@ fn judged(
     if let Verdict::No(clause) = check_in(alloc, files, words, &plain, map, seed)? {
         return Ok(DebugVerdict::No(clause));
     }
-    match tables_judged(alloc, seed, files, words, wanted, image) {
-        Ok(verdict) => Ok(verdict),
-        Err(LinkError::Memory) => Err(AllocError),
-        Err(_) => Ok(DebugVerdict::NoTables(None)),
-    }
+    tables_judged(alloc, seed, files, words, wanted, image)
 }
 
 /// Reads the image and then the map, and checks them.

@@ -5,7 +5,7 @@ ghost use Rattle.image_write.specs.Streams.{Took, TookPart};
 ghost use Rattle.debug_image.specs.DebugLayouts.{IsDataLayout, data_in};
 ghost use Rattle.debug_image.specs.DebugValues.{all_bytes, chunk_bytes};
 ghost use Rattle.debug_image.specs.DebugViews.{chunk_view, chunk_views};
-ghost use Rattle.debug_main.specs.DebugFiles.{file_of, left_at, left_if};
+ghost use Rattle.debug_main.specs.DebugFiles.{file_of, left_at, left_if, left_of};
 ghost use Rattle.debug_main.specs.Ready.{IsReady};
 
 use debug_image::{Chunk, DataLayout, DebugParts, chunk_data};
@@ -71,7 +71,7 @@ fn write_chunks<'a, S: HoleSink>(
         (all_bytes (data_in layout.now) (chunk_views chunks.now)) (S.told sink.new)) }
     ensures failure { IfErr result (λ f. f ≡ WriteFault.Device → S.failed sink.new ≢ 0) }
     ensures left { OnOk result (left.new.items ≡ left.old.items
-        ++ filter_map (left_at (data_in layout.now)) (chunk_views chunks.now)) }
+        ++ left_of (data_in layout.now) (chunk_views chunks.now)) }
 {
     for chunk in chunks {
         write_chunk(alloc, layout, chunk, left, sink)?;
@@ -101,7 +101,7 @@ pub fn write_debug_file<'a, S: HoleSink>(
         (S.told sink.new)) }
     ensures failure { IfErr result (λ f. f ≡ WriteFault.Device → S.failed sink.new ≢ 0) }
     ensures left { OnOk result (left.new.items ≡ left.old.items
-        ++ filter_map (left_at (data_in layout.now)) (chunk_views parts.now.chunks.items)) }
+        ++ left_of (data_in layout.now) (chunk_views parts.now.chunks.items)) }
 {
     put_all(sink, &parts.front)?;
     write_chunks(alloc, layout, &parts.chunks, left, sink)?;

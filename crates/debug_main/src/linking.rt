@@ -1,9 +1,9 @@
 //! The link with an image for tools.
-ghost use Rattle.std.specs.Prelude.{◌≡◌, ◌≤◌, ◌⊎◌, true, IfErr, IfOk, IsErr, OnOk};
+ghost use Rattle.std.specs.Prelude.{◌≡◌, ◌≢◌, ◌≤◌, true, IfErr, IsErr, OnOk};
 ghost use Rattle.elf_model.specs.Inputs.Command.{command_of};
 ghost use Rattle.elf_model.specs.Inputs.Files.{files_of, words_of};
-ghost use Rattle.ld_main.specs.Program.{HasRightLink, LinksRight, failure_status};
-ghost use Rattle.debug_main.specs.Ready.{IsReady};
+ghost use Rattle.ld_main.specs.Program.{LinksRight, failure_status};
+ghost use Rattle.debug_main.specs.Ready.{IsReady, IsToolFile};
 ghost use Rattle.debug_main.specs.Words.{IsStripped};
 
 use crate::debug_file::DebugFile;
@@ -23,9 +23,12 @@ fn write_file<'a, 'b, R: Files + AllocGlobal + RandomSource>(
     rt: &R,
     outputs: &Outputs<'a>,
     linkage: &Linkage<'b>,
+    wanted: Wanted,
     file: DebugFile<'_, 'b>,
 ) -> Result<Vec<SectionRef>, Failure<'a>>
-    requires { IsReady file }
+    requires ready { IsReady file }
+    requires file { IsToolFile wanted linkage.now file }
+    ensures { IfErr result (λ f. 3 ≤ failure_status f) }
 {
     let file = write_outputs(rt, outputs, file, MapOf { linkage })?;
     Ok(file.into_left())
@@ -41,6 +44,7 @@ fn write_link<'a, 'b, R: Files + AllocGlobal + RandomSource, E: Write>(
     err: &mut E,
 ) -> Result<(), Failure<'a>>
     requires { linkage.now.plan.strip ≡ true }
+    ensures { IfErr result (λ f. failure_status f ≢ 2) }
 {
     let alloc = rt.alloc();
     let names = definitions(alloc, &*linkage)?;
@@ -51,7 +55,7 @@ fn write_link<'a, 'b, R: Files + AllocGlobal + RandomSource, E: Write>(
         parts: &parts,
         left: Vec::new(alloc),
     };
-    let left = write_file(rt, outputs, &*linkage, file)?;
+    let left = write_file(rt, outputs, &*linkage, wanted, file)?;
     let _ = print_left(err, parts.data.left);
     let _ = print_unrelocated(err, files, linkage.loaded().objects(), &left);
     Ok(())
@@ -68,7 +72,9 @@ pub fn link_files<'a, R: Files + AllocGlobal + RandomSource, E: Write>(
     err: &mut E,
 ) -> Result<(), Failure<'a>>
     requires { IsStripped (words_of words.now) }
-    ensures { OnOk result (LinksRight (files_of files.now) (words_of words.now)) }
+    ensures right { OnOk result (LinksRight (files_of files.now) (words_of words.now)) }
+    ensures words_alone { IfErr result (λ f. failure_status f ≡ 2
+        → IsErr (command_of (words_of words.now))) }
 {
     let linkage = match prepare_seeded(rt.alloc(), files, words, seed) {
         Ok(linkage) => linkage,

@@ -1,6 +1,10 @@
 //! What an image for tools is made of.
-ghost use Rattle.std.specs.Prelude.{◌≡◌, true, IfOk};
+ghost use Rattle.std.specs.Prelude.{◌≡◌, ◌≢◌, true, false, IfErr, IfOk};
+ghost use Rattle.debug_image.specs.DebugImage.{CanBeSaid};
 ghost use Rattle.debug_main.specs.DebugFiles.{AreParts};
+ghost use Rattle.debug_main.specs.Verdicts.{is_memory};
+ghost use Rattle.ld_main.specs.Program.{error_status};
+ghost use Rattle.debug_image.specs.declared.faults.DebugFault.TheVariants as debug_fault;
 ghost use Rattle.resolve.specs.Views.{meaning_views};
 
 use debug_image::{DebugFault, DebugParts, Wanted, debug_parts};
@@ -22,7 +26,10 @@ pub fn resolved_of<'l, 'a>(linkage: &'l Linkage<'a>) -> &'l Resolved<'a>
 }
 
 /// The error of a link for which no image for tools can be made.
-fn error_of(fault: DebugFault) -> LinkError {
+fn error_of(fault: DebugFault) -> LinkError
+    ensures status { error_status result ≢ 2 }
+    ensures large { is_memory result ≡ false → fault ≡ debug_fault.TooLarge }
+{
     match fault {
         DebugFault::Memory => LinkError::Memory,
         DebugFault::TooLarge => LinkError::TooLarge,
@@ -40,7 +47,10 @@ pub fn made<'a>(
     names: &[Definition<'a>],
     wanted: Wanted,
 ) -> Result<DebugParts<'a>, LinkError>
-    ensures { IfOk result (AreParts linkage.now (meaning_views names.now) wanted) }
+    ensures parts { IfOk result (AreParts linkage.now (meaning_views names.now) wanted) }
+    ensures status { IfErr result (λ e. error_status e ≢ 2) }
+    ensures large { IfErr result (λ e. is_memory e ≡ false
+        → ¬ CanBeSaid wanted linkage.now (meaning_views names.now)) }
 {
     match debug_parts(alloc, linkage, names, wanted) {
         Ok(parts) => Ok(parts),

@@ -1,10 +1,10 @@
 //! The program `ld-debug`: links as `ld` does, and writes an image for tools; checks such an image.
-ghost use Rattle.std.specs.Prelude.{◌≡◌, ◌⊎◌, ◌≤◌, ◌∷◌, true, false, Ok, IfErr, IfOk, IsErr, IsErrAnd, codes, is_some, not};
+ghost use Rattle.std.specs.Prelude.{◌≡◌, ◌⊎◌, ◌≤◌, ◌∷◌, List, true, false, Ok, IfErr, IfOk, IfSome, IsErr, IsErrAnd, OnOk, codes, is_some, not};
 ghost use Rattle.elf_model.specs.Inputs.Command as command;
 ghost use Rattle.elf_model.specs.Inputs.Command.{command_of};
-ghost use Rattle.elf_model.specs.Inputs.Files.{words_of};
+ghost use Rattle.elf_model.specs.Inputs.Files.{File, words_of};
 ghost use Rattle.ld_main.specs.Program.{Asks, HasRightLink, failure_status};
-ghost use Rattle.debug_main.specs.Verdicts.{answer_status};
+ghost use Rattle.debug_main.specs.Verdicts.{Prints, SaysSome, answer_status};
 ghost use Rattle.debug_main.specs.Words.{IsStripped, plain_words, stands_alone};
 
 use crate::checking::check_files;
@@ -14,6 +14,7 @@ use crate::words::{stands_alone, stripped};
 use debug_image::Wanted;
 use elf_model::LinkError;
 use ld_main::{Failure, Task, given_words, name_seed, read_input};
+use std::io;
 use std::io::Write;
 use std::random::RandomSource;
 use std::rt::{Env, Files};
@@ -40,11 +41,18 @@ fn run<'a, R: Files + AllocGlobal + RandomSource, E: Write>(
     requires { IsStripped (words_of words.now) }
     ensures right { IfOk result (λ o. answer_status o ≡ 0
         → HasRightLink (words_of words.entry.now)) }
+    ensures judged { IfOk result (λ o. IfSome o (λ v. (files : List File)
+        × SaysSome files (words_of words.entry.now) wanted v)) }
     ensures refused_words { IsErr (command_of (words_of words.entry.now)) →
         IsErrAnd result (λ f. (failure_status f ≡ 2) ⊎ (failure_status f ≡ 4)) }
+    ensures words_alone { IfErr result (λ f. failure_status f ≡ 2
+        → IsErr (command_of (words_of words.entry.now))) }
     ensures mode { IfOk result (λ o. Asks (is_some o) (words_of words.entry.now)) }
     ensures check_is_quiet { (p : command.Plan) →
         command_of (words_of words.entry.now) ≡ Ok p → p.check ≡ true → err.new ≡ err.old }
+    ensures fault { (p : command.Plan) →
+        command_of (words_of words.entry.now) ≡ Ok p → p.check ≡ true
+        → IfErr result (λ f. 2 ≤ failure_status f) }
 {
     let (task, files) = read_input(rt, words)?;
     let seed = name_seed(rt);
@@ -57,6 +65,39 @@ fn run<'a, R: Files + AllocGlobal + RandomSource, E: Write>(
             let verdict = check_files(rt, seed, image, map, &files, words, wanted)?;
             Ok(Some(verdict))
         }
+    }
+}
+
+/// Runs `ld-debug` with the words with which the image at the beginning is linked and checked, and answers its exit status and
+/// whether what was to be printed was.
+fn answer<R: Files + AllocGlobal + RandomSource, O: Write, E: Write>(
+    rt: &R,
+    words: &[String],
+    wanted: Wanted,
+    out: &mut O,
+    err: &mut E,
+) -> (u8, io::Result<()>)
+    requires { IsStripped (words_of words.now) }
+    ensures statuses { result.0 ≤ 4 }
+    ensures right { result.0 ≡ 0 → HasRightLink (words_of words.now) }
+    ensures verdict { (p : command.Plan) →
+        command_of (words_of words.now) ≡ Ok p → p.check ≡ true → result.0 ≤ 1
+        → OnOk result.1 (Prints (words_of words.now) wanted result.0
+        (O.contents out.old) (O.contents out.new)) }
+    ensures refused_words { IsErr (command_of (words_of words.now))
+        → (result.0 ≡ 2) ⊎ (result.0 ≡ 4) }
+    ensures words_alone { result.0 ≡ 2 → IsErr (command_of (words_of words.now)) }
+    ensures out_quiet { 2 ≤ result.0 → out.new ≡ out.old }
+    ensures link_prints_nothing { (p : command.Plan) →
+        command_of (words_of words.now) ≡ Ok p → p.check ≡ false → out.new ≡ out.old }
+    ensures check_prints_no_fault { (p : command.Plan) →
+        command_of (words_of words.now) ≡ Ok p → p.check ≡ true → result.0 ≤ 1
+        → err.new ≡ err.old }
+{
+    match run(rt, words, wanted, err) {
+        Ok(Some(verdict)) => (verdict.status(), verdict.print(out)),
+        Ok(None) => (0, Ok(())),
+        Err(failure) => (failure.status(), failure.print(err)),
     }
 }
 
@@ -77,27 +118,24 @@ pub fn run_debug<R: Files + AllocGlobal + RandomSource, O: Write, E: Write>(
     ensures statuses { result ≤ 4 }
     ensures right { result ≡ 0
         → HasRightLink (codes "-s" ∷ plain_words (words_of given.now)) }
+    ensures refused_words { IsErr (command_of (plain_words (words_of given.now)))
+        → (result ≡ 2) ⊎ (result ≡ 4) }
+    ensures words_alone { result ≡ 2 → IsErr (command_of (plain_words (words_of given.now))) }
     ensures out_quiet { 2 ≤ result → out.new ≡ out.old }
     ensures link_prints_nothing { (p : command.Plan) →
         command_of (plain_words (words_of given.now)) ≡ Ok p → p.check ≡ false
         → out.new ≡ out.old }
+    ensures check_prints_no_fault { (p : command.Plan) →
+        command_of (plain_words (words_of given.now)) ≡ Ok p → p.check ≡ true
+        → result ≤ 1 → err.new ≡ err.old }
 {
     let Ok(words) = stripped(rt.alloc(), given) else {
         let failure = Failure::from(LinkError::Memory);
         let _ = failure.print(err);
         return failure.status();
     };
-    match run(rt, &words, wanted(given), err) {
-        Ok(Some(verdict)) => {
-            let _ = verdict.print(out);
-            verdict.status()
-        }
-        Ok(None) => 0,
-        Err(failure) => {
-            let _ = failure.print(err);
-            failure.status()
-        }
-    }
+    let (status, _printed) = answer(rt, &words, wanted(given), out, err);
+    status
 }
 
 /// Runs `ld-debug` with the words that a runtime has behind the program's name, as `run_debug` does, and answers its exit status.

@@ -1,11 +1,12 @@
 //! What the check of an image for tools comes to, and the line that says so.
-ghost use Rattle.std.specs.Prelude.{◌≡◌, ◌≤◌};
+ghost use Rattle.std.specs.Prelude.{◌≡◌, ◌≤◌, OnOk};
+ghost use Rattle.std.specs.Io.KnownBytes.{Appends};
+ghost use Rattle.debug_main.specs.Lines.{byte_text, difference_line, offset_text, verdict_text};
 ghost use Rattle.debug_main.specs.Verdicts.{verdict_status};
 
 use elf_model::Clause;
-use std::fmt::{Display, Formatter};
+use std::io;
 use std::io::Write;
-use std::{fmt, io};
 
 /// The first byte of a file that isn't what it is to be: its offset, what is there and what is wanted; None where the file or
 /// what is wanted ends there.
@@ -27,17 +28,32 @@ pub enum DebugVerdict {
     NoTables(Option<Difference>),
 }
 
-/// A byte, or the end of what has none.
-#[derive(Clone, Copy)]
-struct Byte(Option<u8>);
-
-impl Display for Byte {
-    fn fmt<W: fmt::Write>(&self, f: &mut Formatter<W>) -> fmt::Result {
-        match self.0 {
-            Some(byte) => write!(f, "{byte:02x}"),
-            None => f.write_str("end"),
-        }
+/// Writes a byte in two hexadecimal digits, or `end` for what has none.
+fn write_byte<O: Write>(out: &mut O, byte: Option<u8>) -> io::Result<()>
+    ensures { OnOk result (Appends (O.contents out.old) (O.contents out.new) (byte_text byte)) }
+{
+    match byte {
+        Some(byte) => write!(out, "{byte:02x}"),
+        None => write!(out, "end"),
     }
+}
+
+/// Writes where an image differs.
+fn write_offset<O: Write>(out: &mut O, offset: u64) -> io::Result<()>
+    ensures { OnOk result (Appends (O.contents out.old) (O.contents out.new) (offset_text offset)) }
+{
+    write!(out, "no tables 0x{offset:x}: ")
+}
+
+/// Writes where an image differs, what is there and what is wanted.
+fn write_difference<O: Write>(out: &mut O, at: Difference) -> io::Result<()>
+    ensures { OnOk result (Appends (O.contents out.old) (O.contents out.new) (difference_line at)) }
+{
+    write_offset(out, at.offset)?;
+    write_byte(out, at.there)?;
+    write!(out, ", wanted ")?;
+    write_byte(out, at.wanted)?;
+    writeln!(out)
 }
 
 impl DebugVerdict {
@@ -53,18 +69,15 @@ impl DebugVerdict {
     }
 
     /// Prints the verdict's line.
-    pub fn print<O: Write>(self, out: &mut O) -> io::Result<()> {
+    pub fn print<O: Write>(self, out: &mut O) -> io::Result<()>
+        ensures { OnOk result (Appends (O.contents out.old) (O.contents out.new)
+            (verdict_text self)) }
+    {
         match self {
             DebugVerdict::Yes => writeln!(out, "yes"),
             DebugVerdict::No(clause) => writeln!(out, "no C{}", clause as u8),
             DebugVerdict::NoTables(None) => writeln!(out, "no tables"),
-            DebugVerdict::NoTables(Some(at)) => writeln!(
-                out,
-                "no tables {:#x}: {}, wanted {}",
-                at.offset,
-                Byte(at.there),
-                Byte(at.wanted)
-            ),
+            DebugVerdict::NoTables(Some(at)) => write_difference(out, at),
         }
     }
 }

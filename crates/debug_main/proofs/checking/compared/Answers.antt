@@ -1,4 +1,4 @@
-use Rattle.std.proofs.Common.{◌≡◌, ◌≢◌, ◌∙◌, List, ap, subst, sym}
+use Rattle.std.proofs.Common.{◌≢◌, ◌∙◌, List, ap, subst, sym}
 use Rattle.std.specs.Prelude.{Err, Ok, Result}
 use Rattle.image_write.specs.declared.sink.WriteFault.{WriteFault}
 use Rattle.image_write.specs.declared.sink.WriteFault.TheVariants.{Device, Memory}
@@ -29,15 +29,15 @@ difference-requires c =
     (fresh c.args.image.now new.result.image.now new.result.same new.result.wrong new.ensures.image new.ensures.none.0 new.ensures.none.1) e.written e.part e.failure
     sink.sound other).same_image
 
-pub returns-in-Ok : goal.returns-in-Ok
-returns-in-Ok c =
+pub returns-in-Ok-clause-compared : goal.returns-in-Ok-clause-compared
+returns-in-Ok-clause-compared c =
     let sink = c.write_debug_file.new.sink in
     let e = c.write_debug_file.ensures in
     let new = c.new-sink in
     let names = c.in_ok-names.names.items in
     let link = c.args.linkage.now in
     let other : c.write_debug_file.result ≢ Err Memory = other_than c.write_debug_file.result (subst (λ r. IsOther r) (sym c.in-Ok.is) tt) in
-    let parts = subst (λ (ns : List Definition). AreParts link (meaning_views ns) c.args.wanted c.in_ok-parts.parts) c.deref.ensures.value c.in_ok-parts.ensures in
+    let parts = subst (λ (ns : List Definition). AreParts link (meaning_views ns) c.args.wanted c.in_ok-parts.parts) c.deref.ensures.value c.in_ok-parts.ensures.parts in
     let file = file_is c.args.wanted link (meaning_views names) c.in_ok-parts.parts c.in_ok-layout.layout parts c.in_ok-layout.ensures.data in
     let made =
     outcome c.args.image.now sink.image.now (file_of c.in_ok-layout.layout c.in_ok-parts.parts) sink.same sink.wrong sink.failures c.write_debug_file.result _
@@ -60,15 +60,15 @@ difference-requires-in-Err-Device c =
     (fresh c.args.image.now new.result.image.now new.result.same new.result.wrong new.ensures.image new.ensures.none.0 new.ensures.none.1) e.written e.part e.failure
     sink.sound other).same_image
 
-pub returns-in-Err-Device : goal.returns-in-Err-Device
-returns-in-Err-Device c =
+pub returns-in-Err-Device-clause-compared : goal.returns-in-Err-Device-clause-compared
+returns-in-Err-Device-clause-compared c =
     let sink = c.write_debug_file.new.sink in
     let e = c.write_debug_file.ensures in
     let new = c.new-sink in
     let names = c.in_ok-names.names.items in
     let link = c.args.linkage.now in
     let other : c.write_debug_file.result ≢ Err Memory = other_than c.write_debug_file.result (subst (λ r. IsOther r) (sym (c.in-Err-Device.is ∙ ap Err c.in-Err-Device.field-0-is)) tt) in
-    let parts = subst (λ (ns : List Definition). AreParts link (meaning_views ns) c.args.wanted c.in_ok-parts.parts) c.deref.ensures.value c.in_ok-parts.ensures in
+    let parts = subst (λ (ns : List Definition). AreParts link (meaning_views ns) c.args.wanted c.in_ok-parts.parts) c.deref.ensures.value c.in_ok-parts.ensures.parts in
     let file = file_is c.args.wanted link (meaning_views names) c.in_ok-parts.parts c.in_ok-layout.layout parts c.in_ok-layout.ensures.data in
     let made =
     outcome c.args.image.now sink.image.now (file_of c.in_ok-layout.layout c.in_ok-parts.parts) sink.same sink.wrong sink.failures c.write_debug_file.result _

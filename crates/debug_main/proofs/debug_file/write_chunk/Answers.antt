@@ -1,4 +1,4 @@
-use Rattle.std.proofs.Common.{◌≡◌, List, ℕ, ◌∙◌, subst}
+use Rattle.std.proofs.Common.{List, ℕ, ◌∙◌, subst}
 use Rattle.image_write.proofs.StreamLaws.{took_more, whatever}
 use Rattle.image_write.specs.Streams.{Took, TookPart}
 use Rattle.debug_main.proofs.Devices.{part_all, part_first, part_none, part_then}

@@ -1,4 +1,4 @@
-use Rattle.std.proofs.Common.{◌≡◌, List, ℕ, ap, subst}
+use Rattle.std.proofs.Common.{List, ℕ, ap, subst}
 use Rattle.image_write.proofs.StreamLaws.{whatever}
 use Rattle.image_write.specs.Streams.{Took, TookPart}
 use Rattle.debug_image.specs.DebugLayouts.{data_in}

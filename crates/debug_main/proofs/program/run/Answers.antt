@@ -20,3 +20,6 @@ pub returns-clause-right : goal.returns-clause-right
 returns-clause-right g c = λ status.
     let judged = c.in_ok-verdict-in-Check.ensures.judged in
     right_of _ _ c.args.wanted judged.0 judged.1 c.in_ok-verdict-in-Check.verdict judged.2 status
+
+pub returns-clause-judged : goal.returns-clause-judged
+returns-clause-judged g c = (_, c.in_ok-verdict-in-Check.ensures.judged)

@@ -1,6 +1,5 @@
 use Rattle.std.proofs.Common.{◌≡◌, ◌≢◌, ◌∙◌, ◌+◌, ◌<◌, ◌≤◌, ◌++◌, ℕ, List, add-zero, ap, arith, drop, get_or, length, length-drop, refl, sym, subst, take}
-use Rattle.std.specs.Prelude.{Bool, false, Option, None, Some, is_some, slice_index}
-use Rattle.std.specs.Option.{option_to_list}
+use Rattle.std.specs.Prelude.{false, Option, None, Some, is_some, slice_index}
 use Rattle.std.specs.List.{slice_get}
 use Rattle.std.proofs.Math.Seq.{take-add}
 use Rattle.std.proofs.lemmas.List.{append-nil, get_or-drop}
