@@ -6,7 +6,7 @@ use link_samples::links::{Change, File, linked_by};
 use link_samples::objects::{NamedSymbol, Relocation, Section, relocatable};
 use link_samples::one_object::{one_file, words_of};
 use link_samples::parts::{
-    ABSOLUTE_F, FOO, LOCAL, NO_F, NOTES, R_64, R_PC32, START, STOP_FOO, TEXT, THREAD_DATA,
+    ABSOLUTE_F, DATA, FOO, LOCAL, NO_F, NOTES, R_64, R_PC32, START, STOP_FOO, TEXT, THREAD_DATA,
     ZEROS_FOO,
 };
 use std::alloc::Global;
@@ -120,11 +120,36 @@ static DEFINED_TWICE: [Row; 2] = [
     ),
 ];
 
+const WITH_DATA: &[File] = &[File::Object(
+    "a.o",
+    &[TEXT, DATA],
+    &[START],
+    &[Relocation(1, 0, 0, 1, 0), Relocation(2, 0, 0, 1, 0)],
+)];
+
+/// Fields of two sections at like offsets: those of the first share a byte, and that of the second is between them.
+static OF_TWO_SECTIONS: [Row; 1] = [(
+    WITH_DATA,
+    Change::Files(&[File::Object(
+        "a.o",
+        &[TEXT, DATA],
+        &[START],
+        &[
+            Relocation(1, 0, R_PC32, 1, 0),
+            Relocation(2, 1, R_PC32, 1, 0),
+            Relocation(1, 2, R_PC32, 1, 0),
+        ],
+    )]),
+    "a.o: .text+0x0: relocation 0 of section 5, R_X86_64_PC32, to symbol 1 _start: its field shares a byte with that of \
+     a.o: .text+0x2: relocation 1 of section 5, R_X86_64_PC32, to symbol 1 _start\n",
+)];
+
 #[test]
 fn wrong_relocations_are_told(rt: HostRuntime) -> Result<(), Fail> {
     for (number, row) in UNLAWFUL.iter().enumerate() {
         let lines = unlawful_lines(rt.alloc(), row)?;
         assert_eq!(rt; lines.as_str(), row.3, "row {number}");
     }
-    assert_rows(&rt, &DEFINED_TWICE)
+    assert_rows(&rt, &DEFINED_TWICE)?;
+    assert_rows(&rt, &OF_TWO_SECTIONS)
 }

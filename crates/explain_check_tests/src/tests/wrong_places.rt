@@ -1,12 +1,12 @@
 //! C5 and C6: things that are not aligned, out of bounds, not apart, far from their neighbours, or in no segment with their
 //! rights.
-use crate::tests::lines::{Row, assert_rows};
+use crate::tests::lines::{Row, assert_rows, row_lines};
 use crate::tests::samples::{
     LOADING, PLAIN, TWO, WITH_COMMON, WITH_THREAD_ZEROS, WITH_TWO_COMMONS,
 };
 use link_samples::links::{Change, File};
 use link_samples::objects::NamedSymbol;
-use link_samples::parts::{BSS, COMMON, DATA, START, TEXT};
+use link_samples::parts::{BSS, COMMON, DATA, F, START, TEXT};
 use std::test::Fail;
 
 /// A `.data` that needs an alignment, and one without bytes.
@@ -115,7 +115,22 @@ static RIGHTS: [Row; 5] = [
     ),
 ];
 
+/// Three sections in one segment, whose rights are changed: only one of them is told.
+static COUNTED: Row = (
+    &[
+        File::Object("a.o", &[TEXT], &[START], &[]),
+        File::Object("b.o", &[TEXT], &[F], &[]),
+        File::Object("c.o", &[TEXT], &[], &[]),
+    ],
+    Change::Image(124, 6),
+    "a.o: section 1 .text at 0x401000, 0x9 bytes: in a segment with RW, and not R E\n\
+     and 2 more\n",
+);
+
 #[test]
 fn rights_are_explained(rt: HostRuntime) -> Result<(), Fail> {
-    assert_rows(&rt, &RIGHTS)
+    assert_rows(&rt, &RIGHTS)?;
+    let lines = row_lines(rt.alloc(), &COUNTED, 1)?;
+    assert_eq!(rt; lines.as_str(), COUNTED.2);
+    Ok(())
 }
