@@ -111,7 +111,7 @@ const SLOW: NewFiles = NewFiles { step: 1, ..SOUND };
 
 /// Lines, how new files answer, all that comes of a run but the bytes of files, and the paths of
 /// what it leaves.
-static ROWS: [(&str, NewFiles, &str, &str); 37] = [
+static ROWS: [(&str, NewFiles, &str, &str); 38] = [
     // The old image and the old map are replaced once both new ones are whole.
     (
         "-s a.o",
@@ -162,6 +162,12 @@ static ROWS: [(&str, NewFiles, &str, &str); 37] = [
         SOUND,
         "stat full/start\nread a.o\nopen full/start\nnew full/.start.ld-0\nnew full/.start.ld-1\nmode 100755\nrename full/.start.ld-1 to full/start\nout: \nerr: \nstatus 0",
         "full/start ",
+    ),
+    (
+        "-s a.o -o full/third",
+        SOUND,
+        "stat full/third\nread a.o\nopen full/third\nnew full/.third.ld-0\nnew full/.third.ld-1\nnew full/.third.ld-2\nmode 100755\nrename full/.third.ld-2 to full/third\nout: \nerr: \nstatus 0",
+        "full/third ",
     ),
     // After a fault nothing new is left, and what was there is.
     (
@@ -362,6 +368,8 @@ fn outcome(alloc: Global, line: &str, new_files: NewFiles) -> Result<(String, St
         stored("a.map", Kind::Regular),
         stored("/dev/shm/start", Kind::Regular),
         stored("full/.start.ld-0", Kind::Regular),
+        stored("full/.third.ld-0", Kind::Regular),
+        stored("full/.third.ld-1", Kind::Regular),
         stored("null", Kind::Device),
         stored("folder", Kind::Folder),
         stored("/dev/stdout", Kind::Link),
