@@ -1,0 +1,68 @@
+-- A certificate as a record of lists: what other linkers' maps, symbol tables and images tell, and what a judge takes on
+-- no trust.
+use Rattle.std.specs.Prelude.{ℕ, ◌≤◌, ◌+◌, ◌==◌, ◌&&◌, Bool, List, Option, find, map, option_map}
+use Rattle.std.specs.List.{list_any}
+use Rattle.std.specs.Str.{bytes_eq}
+use Rattle.elf_model.specs.Image.MapRecord.{CommonRow, ObjectRow, PlaceRow, common_row, object_row, place_row}
+use Rattle.elf_model.specs.Image.MapText.{Ascends, CommonBefore, DropBefore, NameBefore, PlaceBefore}
+use Rattle.elf_model.specs.declared.link_map.DropLine.{DropLine}
+use Rattle.judge_model.specs.declared.certificate.Certificate.{Certificate}
+use Rattle.judge_model.specs.declared.certificate.NameLine.{NameLine}
+use Rattle.judge_model.specs.declared.certificate.NoteLine.{NoteLine}
+
+-- the value of a name that the linker or its script defines
+pub record NameRow : Type 0 where
+  pub value : ℕ
+  pub name : List ℕ
+
+-- the objects in loading order; the sections with SHF_ALLOC that are left out; the addresses of sections and of common
+-- blocks; the notes that the linker made; the names that it or its script defines
+pub record CertificateRecord : Type 0 where
+  pub objects : List ObjectRow
+  pub drops : List DropLine
+  pub places : List PlaceRow
+  pub commons : List CommonRow
+  pub notes : List NoteLine
+  pub names : List NameRow
+
+abbrev pub name_row : NameLine → NameRow
+name_row l = record { value = l.value; name = l.name.items }
+
+-- a certificate as clauses see it
+abbrev pub certificate_of : Certificate → CertificateRecord
+certificate_of c = record {
+  objects = map object_row c.objects.items;
+  drops = c.drops.items;
+  places = map place_row c.places.items;
+  commons = map common_row c.commons.items;
+  notes = c.notes.items;
+  names = map name_row c.names.items;
+}
+
+abbrev pub NameRowBefore : NameRow → NameRow → Type 0
+NameRowBefore p q = NameBefore p.name q.name
+
+abbrev pub NoteBefore : NoteLine → NoteLine → Type 0
+NoteBefore p q = p.address + p.size ≤ q.address
+
+-- no two lines speak of one thing, and those of a kind come by rising keys
+pub record IsInOrder (c : CertificateRecord) : Type 0 where
+  pub drops : Ascends DropBefore c.drops
+  pub places : Ascends PlaceBefore c.places
+  pub commons : Ascends CommonBefore c.commons
+  pub notes : Ascends NoteBefore c.notes
+  pub names : Ascends NameRowBefore c.names
+
+-- a section has a drop line; it has a place line
+abbrev pub is_left_out : List DropLine → ℕ → ℕ → Bool
+is_left_out drops object section = list_any (λ d. d.object == object && d.section == section) drops
+
+abbrev pub has_place : List PlaceRow → ℕ → ℕ → Bool
+has_place rows object section = list_any (λ row. row.object == object && row.section == section) rows
+
+-- the value that the line of a name gives; None without one
+abbrev pub is_row_of : List ℕ → NameRow → Bool
+is_row_of name row = bytes_eq row.name name
+
+abbrev pub value_of_name : List NameRow → List ℕ → Option ℕ
+value_of_name rows name = option_map (λ row. row.value) (find (is_row_of name) rows)

@@ -1,0 +1,169 @@
+-- F11 and F12. The headers of an image: what the system asks of them to map it, and that they are true (System V gABI 4, "ELF
+-- Header", 5, "Program Header"; PT_GNU_STACK, PT_GNU_RELRO and PT_GNU_PROPERTY are those of GNU; pages and tails are those
+-- of Linux on x86-64).
+use Rattle.std.specs.Prelude.{◌≡◌, ◌⊎◌, ℕ, ◌+◌, ◌-◌, ◌*◌, ◌/◌, ◌%◌, ◌^◌, ◌<◌, ◌≤◌, ◌==◌, ◌&&◌, ◌||◌, Bool, true, not, List, [], ◌∷◌, All, AllPairs, Any, bit_and, codes, count_by, length, slice_index, take}
+use Rattle.std.specs.List.{list_any}
+use Rattle.std.specs.Str.{bytes_eq}
+use Rattle.elf_model.specs.Image.MemoryImage.{ShareNoPage, loads, program_headers}
+use Rattle.elf_model.specs.Inputs.ObjectFile.{name_of_section, sections}
+use Rattle.elf_model.specs.Inputs.Records.{file_header}
+use Rattle.elf_model.specs.Link.Pieces.{Piece, is_executable, is_gathered_by, is_writable}
+use Rattle.elf_model.specs.Link.Placement.{Covers, Placed, thing_of}
+use Rattle.elf_model.specs.declared.constants.TheConstants.{PF_R, PF_W, PF_X}
+use Rattle.elf_model.specs.declared.records.FileHeader.{FileHeader}
+use Rattle.elf_model.specs.declared.records.ProgramHeader.{ProgramHeader}
+use Rattle.judge_model.specs.Links.{ForeignLink, objects_of, placed_of}
+use Rattle.judge_model.specs.Plans.{in_script}
+
+-- The file header.
+
+-- ELF, 64 bits, least significant byte first, version 1, for System V or GNU
+pub record IsIdent (ident : List ℕ) : Type 0 where
+  pub front : take 7 ident ≡ 0x7f ∷ 0x45 ∷ 0x4c ∷ 0x46 ∷ 2 ∷ 1 ∷ 1 ∷ []
+  pub system : (slice_index ident 7 ≡ 0) ⊎ (slice_index ident 7 ≡ 3)
+
+-- ET_EXEC for x86-64; program headers inside a file of a length behind the file header; section headers of 64 bytes or none
+pub record IsFileHeader (len : ℕ) (h : FileHeader) : Type 0 where
+  pub ident : IsIdent h.e_ident
+  pub type_ : h.e_type ≡ 2
+  pub machine : h.e_machine ≡ 62
+  pub version : h.e_version ≡ 1
+  pub flags : h.e_flags ≡ 0
+  pub header_size : h.e_ehsize ≡ 64
+  pub program_header_size : h.e_phentsize ≡ 56
+  pub section_header_size : (h.e_shentsize ≡ 64) ⊎ ((h.e_shentsize ≡ 0) × (h.e_shnum ≡ 0))
+  pub program_headers : h.e_phoff ≡ 64
+  pub inside : 64 + 56 * h.e_phnum ≤ len
+
+-- Program headers.
+
+abbrev pub pt_note : ℕ
+pt_note = 4
+
+abbrev pub pt_phdr : ℕ
+pt_phdr = 6
+
+abbrev pub pt_gnu_eh_frame : ℕ
+pt_gnu_eh_frame = 0x6474e550
+
+abbrev pub pt_gnu_stack : ℕ
+pt_gnu_stack = 0x6474e551
+
+abbrev pub pt_gnu_relro : ℕ
+pt_gnu_relro = 0x6474e552
+
+abbrev pub pt_gnu_property : ℕ
+pt_gnu_property = 0x6474e553
+
+-- of these types any number may be there, and of those at most one
+abbrev pub is_many_type : ℕ → Bool
+is_many_type t = t == 1 || t == pt_note
+
+abbrev pub is_single_type : ℕ → Bool
+is_single_type t =
+    t == 7 || (t == pt_phdr || (t == pt_gnu_eh_frame || (t == pt_gnu_stack || (t == pt_gnu_relro || t == pt_gnu_property))))
+
+abbrev pub is_of_type : ℕ → ProgramHeader → Bool
+is_of_type t h = h.p_type == t
+
+pub record AreTypesRight (hs : List ProgramHeader) : Type 0 where
+  pub known : All (λ h. (is_many_type h.p_type || is_single_type h.p_type) ≡ true) hs
+  pub single : (t : ℕ) → is_single_type t ≡ true → count_by (is_of_type t) hs ≤ 1
+
+-- A PT_LOAD: some memory, of which the file's part comes first and lies in the file; R and no rights but R, W and X; file
+-- offset and address alike within a page. Behind the file's part Linux clears memory to the page's end where the segment
+-- may be written alone; at a page's end nothing is left to clear.
+pub record IsLoad (len : ℕ) (h : ProgramHeader) : Type 0 where
+  pub file_in_memory : h.p_filesz ≤ h.p_memsz
+  pub in_file : 0 < h.p_filesz → h.p_offset + h.p_filesz ≤ len
+  pub read : bit_and h.p_flags PF_R ≡ PF_R
+  pub rights : bit_and h.p_flags (PF_R + (PF_W + PF_X)) ≡ h.p_flags
+  pub alike : h.p_vaddr % 4096 ≡ h.p_offset % 4096
+  pub low : h.p_vaddr + h.p_memsz ≤ 2 ^ 47 - 4096
+  pub tail : h.p_filesz < h.p_memsz → (bit_and h.p_flags PF_W ≡ PF_W) ⊎ ((h.p_vaddr + h.p_filesz) % 4096 ≡ 0)
+
+pub record AreLoads (len : ℕ) (hs : List ProgramHeader) : Type 0 where
+  pub some : 0 < length hs
+  pub each : All (IsLoad len) hs
+  pub rising : AllPairs (λ g h. g.p_vaddr + g.p_memsz ≤ h.p_vaddr) hs
+  pub pages : AllPairs ShareNoPage hs
+
+-- A header of another type is true of memory where it has any: its part of the file is that of a segment there.
+abbrev pub is_placed_type : ℕ → Bool
+is_placed_type t = t == pt_note || (t == pt_phdr || (t == pt_gnu_eh_frame || t == pt_gnu_property))
+
+abbrev pub IsPartOf : ProgramHeader → ProgramHeader → Type 0
+IsPartOf h g =
+    (g.p_vaddr ≤ h.p_vaddr)
+    × (h.p_vaddr + h.p_filesz ≤ g.p_vaddr + g.p_filesz)
+    × (h.p_offset + g.p_vaddr ≡ g.p_offset + h.p_vaddr)
+
+-- PT_GNU_RELRO may reach behind the file's part
+abbrev pub BeginsIn : ProgramHeader → ProgramHeader → Type 0
+BeginsIn h g =
+    (g.p_vaddr ≤ h.p_vaddr) × (h.p_vaddr ≤ g.p_vaddr + g.p_memsz) × (h.p_offset + g.p_vaddr ≡ g.p_offset + h.p_vaddr)
+
+abbrev pub IsTrueOf : List ProgramHeader → ProgramHeader → Type 0
+IsTrueOf hs h =
+    (is_placed_type h.p_type ≡ true → Any (IsPartOf h) hs) × (h.p_type ≡ pt_gnu_relro → Any (BeginsIn h) hs)
+
+-- PT_PHDR is where the program headers are, and may be larger than these. Where a program asks for thread-local storage or
+-- for frames it finds them through its program headers, which then are in memory.
+abbrev pub IsTable : ProgramHeader → Type 0
+IsTable h = h.p_type ≡ pt_phdr → h.p_offset ≡ 64
+
+abbrev pub needs_table : ProgramHeader → Bool
+needs_table h = h.p_type == 7 || h.p_type == pt_gnu_eh_frame
+
+abbrev pub HasTable : List ℕ → Type 0
+HasTable image = Any (λ g. (g.p_offset ≤ 64) × (64 + 56 * (file_header image).e_phnum ≤ g.p_offset + g.p_filesz)) (loads image)
+
+-- physical addresses are the virtual ones unless a script says otherwise; PT_GNU_STACK has none
+abbrev pub IsPhysical : ForeignLink → ProgramHeader → Type 0
+IsPhysical l h = (h.p_paddr ≡ h.p_vaddr) ⊎ (in_script (λ t. t.physical) l.plan ≡ true)
+
+-- PT_GNU_RELRO makes memory read-only before the program runs: whole pages of it, and so nothing that the program may write
+-- but what is written before.
+abbrev pub relro_names : List (List ℕ)
+relro_names =
+    codes ".tdata" ∷ codes ".tbss" ∷ codes ".init_array" ∷ codes ".fini_array" ∷ codes ".preinit_array" ∷ codes ".ctors"
+    ∷ codes ".dtors" ∷ codes ".jcr" ∷ codes ".data.rel.ro" ∷ codes ".bss.rel.ro" ∷ codes ".eh_frame"
+    ∷ codes ".gcc_except_table" ∷ codes ".tm_clone_table" ∷ []
+
+abbrev pub is_written_early : Piece → Bool
+is_written_early p = list_any (is_gathered_by p.name) relro_names
+
+abbrev pub is_written_late : Placed → Bool
+is_written_late q = is_writable q.piece.header && not (is_written_early q.piece)
+
+-- from the first page's beginning to the last page's beginning
+abbrev pub IsProtected : ProgramHeader → ℕ → Type 0
+IsProtected h a = (h.p_vaddr / 4096 * 4096 ≤ a) × (a < (h.p_vaddr + h.p_memsz) / 4096 * 4096)
+
+abbrev pub ProtectsNone : ForeignLink → ProgramHeader → Type 0
+ProtectsNone l h =
+    h.p_type ≡ pt_gnu_relro
+    → All (λ q. is_written_late q ≡ true → (a : ℕ) → Covers (thing_of q) a → ¬ IsProtected h a) (placed_of l)
+
+-- The stack is executable where the words or an object ask for it alone: an object asks by the flags of .note.GNU-stack
+abbrev pub is_executing_note : List ℕ → Bool
+is_executing_note bytes =
+    list_any (λ h. is_executable h && bytes_eq (name_of_section bytes h) (codes ".note.GNU-stack")) (sections bytes)
+
+abbrev pub may_execute_stack : ForeignLink → Bool
+may_execute_stack l = l.plan.executes_stack || list_any (λ o. is_executing_note o.bytes) (objects_of l)
+
+abbrev pub IsStackRight : ForeignLink → ProgramHeader → Type 0
+IsStackRight l h = h.p_type ≡ pt_gnu_stack → bit_and h.p_flags PF_X ≡ PF_X → may_execute_stack l ≡ true
+
+pub record AreHeadersRight (l : ForeignLink) : Type 0 where
+  pub long : 64 ≤ length l.image
+  pub file : IsFileHeader (length l.image) (file_header l.image)
+  pub types : AreTypesRight (program_headers l.image)
+  pub loads_are : AreLoads (length l.image) (loads l.image)
+  pub true_ : All (IsTrueOf (loads l.image)) (program_headers l.image)
+  pub table : All IsTable (program_headers l.image)
+  pub mapped : Any (λ h. needs_table h ≡ true) (program_headers l.image) → HasTable l.image
+  pub physical : All (IsPhysical l) (program_headers l.image)
+  pub relro : All (ProtectsNone l) (program_headers l.image)
+  pub stack : All (IsStackRight l) (program_headers l.image)

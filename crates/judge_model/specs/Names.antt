@@ -1,0 +1,129 @@
+-- The names that a linker or its script defines where no object does, and which values they may have (ld(1) and the default
+-- scripts of GNU ld). A certificate gives each its one value; here is what a value has to be.
+use Rattle.std.specs.Prelude.{◌≡◌, ◌⊎◌, ℕ, ◌+◌, ◌-◌, ◌*◌, ◌^◌, ◌<◌, ◌≤◌, cond, List, [], ◌∷◌, Option, None, Some, All, Any, IfSome, codes, is_some, max, unwrap_or}
+use Rattle.std.specs.Option.{option_or}
+use Rattle.std.specs.Str.{bytes_eq}
+use Rattle.elf_model.specs.Image.MemoryImage.{Encloses, first_address, loads}
+use Rattle.elf_model.specs.Link.LinkerNames.{BoundName, bound_name, fixed_bound, is_start_name, is_stop_name, output_bound}
+use Rattle.elf_model.specs.Link.LinkerNames as profile
+use Rattle.elf_model.specs.Link.LinkerValues.{end_of_pieces, is_code_piece, is_file_data, is_loaded_piece, is_zero_data, start_of_pieces}
+use Rattle.elf_model.specs.Link.Pieces.{is_of_output}
+use Rattle.elf_model.specs.Link.Placement.{Covers}
+use Rattle.elf_model.specs.declared.bound.Bound.{Bound}
+use Rattle.elf_model.specs.declared.bound.Bound.TheVariants.{CodeEnd, DataEnd, GotStart, ImageEnd, ImageStart, OutputEnd, OutputStart, ZeroStart}
+use Rattle.elf_model.specs.declared.records.ProgramHeader.{ProgramHeader}
+use Rattle.judge_model.specs.Certificates.{NameRow, value_of_name}
+use Rattle.judge_model.specs.Links.{ForeignLink, has_output, placed_of}
+use Rattle.judge_model.specs.Placed.{things_of}
+
+-- Where arrays of functions begin and end: the profile's three; and that of the relocations of IFUNC symbols, which no link
+-- that is judged has.
+abbrev pub relative_name : List ℕ
+relative_name = codes ".rela.iplt"
+
+abbrev pub relative_bound : List ℕ → Option Bound
+relative_bound name =
+    cond (bytes_eq name (codes "__rela_iplt_start")) (Some OutputStart)
+    (cond (bytes_eq name (codes "__rela_iplt_end")) (Some OutputEnd) None)
+
+abbrev pub output_named : List ℕ → List ℕ
+output_named name = cond (is_some (relative_bound name)) relative_name (profile.named_output name)
+
+-- what a name stands for: one that is always defined; __start_N and __stop_N where the image has sections of output name N
+abbrev pub bound_of : ForeignLink → List ℕ → Option Bound
+bound_of l name =
+    option_or (relative_bound name)
+    (option_or (fixed_bound name) (cond (has_output l (output_named name)) (output_bound name) None))
+
+-- no section, common block, header or note is in between
+abbrev pub IsClear : ForeignLink → ℕ → ℕ → Type 0
+IsClear l from to = (a : ℕ) → from ≤ a → a < to → All (λ t. ¬ Covers t a) (things_of l)
+
+-- at the greatest end of some pieces, or behind it in their segment and before whatever comes next
+pub record IsBehind (l : ForeignLink) (end v : ℕ) : Type 0 where
+  pub behind : end ≤ v
+  pub inside : Any (λ h. Encloses h end (v - end)) (loads l.image)
+  pub clear : IsClear l end v
+
+abbrev pub IsEnd : ForeignLink → ℕ → ℕ → Type 0
+IsEnd l end v = (v ≡ end) ⊎ IsBehind l end v
+
+-- where a part of an image is that has nothing
+abbrev pub IsNowhere : ForeignLink → ℕ → Type 0
+IsNowhere l v = (v ≡ 0) ⊎ Any (λ h. Encloses h v 0) (loads l.image)
+
+-- at the least address of some pieces, or before it in their segment and behind whatever comes before; anywhere where there
+-- are none
+pub record IsAhead (l : ForeignLink) (start v : ℕ) : Type 0 where
+  pub ahead : v ≤ start
+  pub inside : Any (λ h. Encloses h v (start - v)) (loads l.image)
+  pub clear : IsClear l v start
+
+abbrev pub IsStart : ForeignLink → ℕ → Option ℕ → Type 0
+IsStart l v None = IsNowhere l v
+IsStart l v (Some start) = (v ≡ start) ⊎ IsAhead l start v
+
+-- the greatest end of the segments
+abbrev pub memory_end : List ProgramHeader → ℕ
+memory_end [] = 0
+memory_end (h ∷ hs) = max (h.p_vaddr + h.p_memsz) (memory_end hs)
+
+-- the end of all: of every section, block and note (slots are judged with the fill), and at most two of the largest pages
+-- behind the last segment
+pub record IsImageEnd (l : ForeignLink) (v : ℕ) : Type 0 where
+  pub behind : end_of_pieces is_loaded_piece (placed_of l) ≤ v
+  pub notes : All (λ n. n.address + n.size ≤ v) l.certificate.notes
+  pub near : v ≤ memory_end (loads l.image) + 2 * 2 ^ 21
+
+abbrev pub start_of_output : ForeignLink → List ℕ → Option ℕ
+start_of_output l output = start_of_pieces (is_of_output output) (placed_of l)
+
+-- at a place, where an output name has anything; its beginning, and its end
+abbrev pub IsAt : ForeignLink → ℕ → ℕ → Option ℕ → Type 0
+IsAt l v place None = IsNowhere l v
+IsAt l v place (Some start) = v ≡ place
+
+abbrev pub IsStartOf : ForeignLink → List ℕ → ℕ → Type 0
+IsStartOf l output v = IsAt l v (unwrap_or (start_of_output l output) 0) (start_of_output l output)
+
+abbrev pub IsEndOf : ForeignLink → List ℕ → ℕ → Type 0
+IsEndOf l output v = IsAt l v (end_of_pieces (is_of_output output) (placed_of l)) (start_of_output l output)
+
+-- the value that a name's bound may have; the GOT's is the one by which fields find it
+abbrev pub IsBoundAt : ForeignLink → List ℕ → ℕ → Bound → Type 0
+IsBoundAt l name v ImageStart = v ≡ first_address (loads l.image)
+IsBoundAt l name v CodeEnd = IsEnd l (end_of_pieces is_code_piece (placed_of l)) v
+IsBoundAt l name v DataEnd = IsEnd l (end_of_pieces is_file_data (placed_of l)) v
+IsBoundAt l name v ZeroStart = IsStart l v (start_of_pieces is_zero_data (placed_of l))
+IsBoundAt l name v ImageEnd = IsImageEnd l v
+IsBoundAt l name v GotStart = Unit {0}
+IsBoundAt l name v OutputStart = IsStartOf l (output_named name) v
+IsBoundAt l name v OutputEnd = IsEndOf l (output_named name) v
+
+abbrev pub IsBoundRight : ForeignLink → NameRow → Type 0
+IsBoundRight l row = IfSome (bound_of l row.name) (IsBoundAt l row.name row.value)
+
+-- two names for the beginning and the end of one array, of which the image has nothing, have one value
+pub record Pair : Type 0 where
+  pub first : List ℕ
+  pub last : List ℕ
+
+abbrev pub pair : List ℕ → List ℕ → Pair
+pair first last = record { first = first; last = last }
+
+abbrev pub pairs : List Pair
+pairs =
+    pair (codes "__init_array_start") (codes "__init_array_end")
+    ∷ pair (codes "__fini_array_start") (codes "__fini_array_end")
+    ∷ pair (codes "__preinit_array_start") (codes "__preinit_array_end")
+    ∷ pair (codes "__rela_iplt_start") (codes "__rela_iplt_end")
+    ∷ []
+
+abbrev pub IsPairRight : ForeignLink → Pair → Type 0
+IsPairRight l p =
+    start_of_output l (output_named p.first) ≡ None
+    → IfSome (value_of_name l.certificate.names p.first) (λ v. IfSome (value_of_name l.certificate.names p.last) (λ w. v ≡ w))
+
+pub record AreNamesRight (l : ForeignLink) : Type 0 where
+  pub bounds : All (IsBoundRight l) l.certificate.names
+  pub paired : All (IsPairRight l) pairs

@@ -1,0 +1,76 @@
+-- What a right link of another linker is: thirteen requirements on the words, the files, the image and a certificate. None
+-- of them says how a linker lays anything out.
+use Rattle.std.specs.Prelude.{◌≡◌, ◌%◌, ◌&&◌, ◌||◌, Bool, true, false, not, Some, All, AllPairs, IsSomeAnd}
+use Rattle.elf_model.specs.Inputs.Records.{file_header}
+use Rattle.elf_model.specs.Link.Pieces.{Piece}
+use Rattle.elf_model.specs.Link.Resolution.{AreUnique, AreSoundCommons, is_in_thread_section, chosen}
+use Rattle.elf_model.specs.Link.Meaning.{object_meaning}
+use Rattle.judge_model.specs.Fields.{AreFieldsApart, HoldsRest, IsFieldRight, IsInside}
+use Rattle.judge_model.specs.Fill.{IsFilled}
+use Rattle.judge_model.specs.Headers.{AreHeadersRight}
+use Rattle.judge_model.specs.Kept.{IsKept}
+use Rattle.judge_model.specs.Links.{ForeignLink, is_frames, is_mergeable, is_placed, objects_of, pieces_of, placed_of, relocations_of}
+use Rattle.judge_model.specs.Loaded.{AreReadable}
+use Rattle.judge_model.specs.Loaded as loaded
+use Rattle.std.specs.List.{list_any}
+use Rattle.elf_model.specs.Link.Pieces.{is_gathered_by}
+use Rattle.judge_model.specs.Means.{value_of}
+use Rattle.judge_model.specs.Names.{AreNamesRight}
+use Rattle.judge_model.specs.Notes.{AreNotesRight}
+use Rattle.judge_model.specs.Placed as placed
+use Rattle.judge_model.specs.Runs.{array_names}
+use Rattle.judge_model.specs.Tables.{AreTablesRight, HasTables}
+use Rattle.judge_model.specs.ThreadBlocks.{IsThreadBlockRight}
+use Rattle.judge_model.specs.declared.judgement.Requirement.{Requirement}
+use Rattle.judge_model.specs.declared.judgement.Requirement.TheVariants.{F1, F2, F3, F4, F5, F6, F7, F8, F9, F10, F11, F12, F13}
+
+-- F11. The entry is a definition of its name outside of thread-local storage, and e_entry is its value.
+abbrev pub EntersRight : ForeignLink → Type 0
+EntersRight l =
+    IsSomeAnd (chosen (objects_of l) l.plan.plan.entry) (λ s. is_in_thread_section (objects_of l) s ≡ false)
+    × IsSomeAnd (object_meaning (objects_of l) l.plan.plan.entry) (λ m. value_of l m ≡ Some (file_header l.image).e_entry)
+
+-- The requirements by number. Those on what linkers edit ask that nothing is edited: code that is rewritten (F6), and call
+-- frames (F8).
+abbrev pub Holds : Requirement → ForeignLink → Type 0
+Holds F1 l = loaded.IsLoaded l.files l.plan.plan l.certificate.objects
+Holds F2 l = IsKept l
+Holds F3 l = placed.IsPlaced l
+Holds F4 l = AreNamesRight l
+Holds F5 l = All (IsFieldRight l) (relocations_of l)
+Holds F6 l = Unit {0}
+Holds F7 l = All (HoldsRest l) (placed_of l)
+Holds F8 l = Unit {0}
+Holds F9 l = IsThreadBlockRight l
+Holds F10 l = AreNotesRight l × IsFilled l
+Holds F11 l = EntersRight l
+Holds F12 l = AreHeadersRight l
+Holds F13 l = HasTables l.image → AreTablesRight l
+
+-- What isn't judged: links whose inputs leave open what is right. Files, archives and objects that can't be read, as those of
+-- other machines or with IFUNC symbols; two strong definitions of a name, unless the words ask for the first; a common symbol
+-- that isn't sound; fields that leave their section or overlap; arrays of functions that gaps would break; and, until they
+-- are judged too, strings and constants that may be merged, and call frames, without a line that says where they are
+-- unedited.
+abbrev pub is_edited : ForeignLink → Piece → Bool
+is_edited l p = not (is_placed l p) && (is_mergeable l p || is_frames p)
+
+abbrev pub is_of_array : Piece → Bool
+is_of_array p = list_any (is_gathered_by p.name) array_names
+
+abbrev pub IsWholeArray : Piece → Type 0
+IsWholeArray p = is_of_array p ≡ true → (p.align ≡ 8) × (p.size % 8 ≡ 0)
+
+pub record IsJudged (l : ForeignLink) : Type 0 where
+  pub readable : AreReadable l.files l.plan.plan
+  pub arrays : All IsWholeArray (pieces_of l)
+  pub unique : l.plan.takes_first ≡ false → AreUnique (objects_of l)
+  pub commons : AreSoundCommons (objects_of l)
+  pub inside : All IsInside (relocations_of l)
+  pub apart : AllPairs AreFieldsApart (relocations_of l)
+  pub unedited : All (λ p. is_edited l p ≡ false) (pieces_of l)
+
+-- A right link by its certificate; and a right link.
+pub record IsShown (l : ForeignLink) : Type 0 where
+  pub judged : IsJudged l
+  pub holds : (f : Requirement) → Holds f l

@@ -1,0 +1,160 @@
+-- F13. The section headers and the symbol table of an image, where it has them: they are true (System V gABI 4, "Sections",
+-- "Symbol Table"). Programs run without them; debuggers and profilers believe them.
+use Rattle.std.specs.Prelude.{◌≡◌, ◌⊎◌, ℕ, ◌+◌, ◌-◌, ◌*◌, ◌%◌, ◌^◌, ◌<◌, ◌≤◌, ◌==◌, ◌&&◌, Bool, true, false, not, cond, List, None, Some, All, Any, IsSomeAnd, bit_and, drop, is_some, length, unwrap_or, count_by}
+use Rattle.std.specs.List.{prefix_len, slice_get}
+use Rattle.std.specs.Str.{bytes_eq}
+use Rattle.elf_model.specs.Image.MemoryImage.{loads}
+use Rattle.elf_model.specs.Inputs.ObjectFile.{has_no_bytes, name_of_symbol, sections, symbol_table, symbols}
+use Rattle.elf_model.specs.Inputs.Records.{file_header}
+use Rattle.elf_model.specs.Link.LinkerValues.{start_of_pieces}
+use Rattle.elf_model.specs.Link.Meaning.{Common, Linker, Meaning, Symbol, is_in_thread_storage, meaning_size}
+use Rattle.elf_model.specs.Link.Pieces.{is_alloc, is_nobits, is_thread_local, is_thread_piece, load_size}
+use Rattle.elf_model.specs.Link.Placement.{Placed}
+use Rattle.elf_model.specs.Link.Relocation.{is_local}
+use Rattle.elf_model.specs.Link.Resolution.{SymbolOf, all_symbols, binding, is_undefined, is_weak, symbol_type}
+use Rattle.elf_model.specs.declared.constants.TheConstants.{SHN_ABS, STB_LOCAL, STT_FILE, STT_NOTYPE, STT_OBJECT, STT_SECTION}
+use Rattle.elf_model.specs.declared.records.ProgramHeader.{ProgramHeader}
+use Rattle.elf_model.specs.declared.records.SectionHeader.{SectionHeader}
+use Rattle.elf_model.specs.declared.records.Symbol as entry
+use Rattle.judge_model.specs.Links.{ForeignLink, objects_of, placed_of}
+use Rattle.judge_model.specs.Means.{is_by_script, object_or_linker, symbol_value, value_of}
+use Rattle.judge_model.specs.Certificates.{value_of_name}
+use Rattle.judge_model.specs.Placed.{needed_rights}
+
+-- Section headers.
+
+-- a section with SHF_ALLOC is in a segment with its rights, and where it has bytes these are the segment's there
+abbrev pub IsMappedBy : SectionHeader → ProgramHeader → Type 0
+IsMappedBy h g =
+    (g.p_vaddr ≤ h.sh_addr)
+    × (h.sh_addr + h.sh_size ≤ g.p_vaddr + g.p_memsz)
+    × (bit_and g.p_flags (needed_rights h) ≡ needed_rights h)
+    × (is_nobits h ≡ false → (h.sh_offset + g.p_vaddr ≡ g.p_offset + h.sh_addr) × (h.sh_offset + h.sh_size ≤ g.p_offset + g.p_filesz))
+
+-- the zeros of thread-local storage take up no memory, and are judged by PT_TLS
+abbrev pub is_in_memory : SectionHeader → Bool
+is_in_memory h = is_alloc h && not (is_thread_local h && is_nobits h)
+
+abbrev pub IsSectionTrue : List ℕ → SectionHeader → Type 0
+IsSectionTrue image h =
+    (is_in_memory h ≡ true → 0 < h.sh_size → Any (IsMappedBy h) (loads image))
+    × (has_no_bytes h ≡ false → h.sh_offset + h.sh_size ≤ length image)
+
+-- where any section takes up memory, each section of the inputs lies in one
+abbrev pub LiesInSection : Placed → SectionHeader → Type 0
+LiesInSection q h = (is_in_memory h ≡ true) × (h.sh_addr ≤ q.at) × (q.at + load_size q.piece ≤ h.sh_addr + h.sh_size)
+
+abbrev pub AreCovered : ForeignLink → Type 0
+AreCovered l =
+    Any (λ h. is_in_memory h ≡ true) (sections l.image)
+    → All (λ q. 0 < load_size q.piece → Any (LiesInSection q) (sections l.image)) (placed_of l)
+
+-- Symbols.
+
+-- an entry stands in the section that has its value, or names none
+abbrev pub IsOfSection : List ℕ → entry.Symbol → ℕ → Type 0
+IsOfSection image e v =
+    (e.st_shndx ≡ SHN_ABS)
+    ⊎ IsSomeAnd (slice_get (sections image) e.st_shndx) (λ h. (h.sh_addr ≤ v) × (v ≤ h.sh_addr + h.sh_size))
+
+-- the value of an entry: that of what it names; of a thread-local one the offset from the block's beginning
+abbrev pub block_start : ForeignLink → ℕ
+block_start l = unwrap_or (start_of_pieces is_thread_piece (placed_of l)) 0
+
+abbrev pub entry_value : ForeignLink → Meaning → ℕ → ℕ
+entry_value l m v = cond (is_in_thread_storage (objects_of l) m) (v - block_start l) (v % 2 ^ 64)
+
+-- type and binding: those of the symbol, or none and LOCAL; a common block is an object, a linker's name has no type
+abbrev pub HasTypeOf : entry.Symbol → Meaning → Type 0
+HasTypeOf e (Symbol s) = (symbol_type e ≡ symbol_type s.entry) ⊎ (symbol_type e ≡ STT_NOTYPE)
+HasTypeOf e (Common b) = (symbol_type e ≡ STT_OBJECT) ⊎ (symbol_type e ≡ STT_NOTYPE)
+HasTypeOf e (Linker name bound) = symbol_type e ≤ STT_OBJECT
+
+abbrev pub HasBindingOf : entry.Symbol → Meaning → Type 0
+HasBindingOf e (Symbol s) = (binding e ≡ binding s.entry) ⊎ (binding e ≡ STB_LOCAL)
+HasBindingOf e m = Unit {0}
+
+pub record IsEntryOf (l : ForeignLink) (e : entry.Symbol) (m : Meaning) (v : ℕ) : Type 0 where
+  pub value : e.st_value ≡ entry_value l m v
+  pub size : (e.st_size ≡ meaning_size m) ⊎ (e.st_size ≡ 0)
+  pub type_ : HasTypeOf e m
+  pub binding_ : HasBindingOf e m
+  pub section : IsOfSection l.image e v
+
+-- it names what its name means to all objects
+abbrev pub IsGlobalEntry : ForeignLink → List ℕ → entry.Symbol → Type 0
+IsGlobalEntry l name e = IsSomeAnd (object_or_linker l name) (λ m. IsSomeAnd (value_of l m) (IsEntryOf l e m))
+
+-- it names a LOCAL symbol of an object
+abbrev pub IsLocalOf : ForeignLink → List ℕ → entry.Symbol → SymbolOf → Type 0
+IsLocalOf l name e s =
+    (is_local s ≡ true)
+    × (bytes_eq s.name name ≡ true)
+    × (is_undefined s.entry ≡ false)
+    × IsSomeAnd (symbol_value l s) (IsEntryOf l e (Symbol s))
+
+abbrev pub IsLocalEntry : ForeignLink → List ℕ → entry.Symbol → Type 0
+IsLocalEntry l name e = (binding e ≡ STB_LOCAL) × Any (IsLocalOf l name e) (all_symbols (objects_of l))
+
+-- it names a script's value; it names nothing, as no object defines what a WEAK symbol asks for; it stands for a file or a
+-- section
+abbrev pub IsScriptEntry : ForeignLink → List ℕ → entry.Symbol → Type 0
+IsScriptEntry l name e = (is_by_script l name ≡ true) × (value_of_name l.certificate.names name ≡ Some e.st_value)
+
+pub record IsMissing (l : ForeignLink) (name : List ℕ) (e : entry.Symbol) : Type 0 where
+  pub undefined : is_undefined e ≡ true
+  pub value : e.st_value ≡ 0
+  pub weak : is_weak e ≡ true
+  pub none : object_or_linker l name ≡ None
+
+pub record IsFile (e : entry.Symbol) : Type 0 where
+  pub type_ : symbol_type e ≡ STT_FILE
+  pub binding_ : binding e ≡ STB_LOCAL
+  pub value : e.st_value ≡ 0
+  pub section : e.st_shndx ≡ SHN_ABS
+
+pub record IsSection (image : List ℕ) (e : entry.Symbol) : Type 0 where
+  pub type_ : symbol_type e ≡ STT_SECTION
+  pub binding_ : binding e ≡ STB_LOCAL
+  pub value : IsSomeAnd (slice_get (sections image) e.st_shndx) (λ h. e.st_value ≡ h.sh_addr)
+
+abbrev pub IsEntryRight : ForeignLink → entry.Symbol → Type 0
+IsEntryRight l e =
+    IsGlobalEntry l (name_of_symbol l.image e) e
+    ⊎ IsLocalEntry l (name_of_symbol l.image e) e
+    ⊎ IsScriptEntry l (name_of_symbol l.image e) e
+    ⊎ IsMissing l (name_of_symbol l.image e) e
+    ⊎ IsFile e
+    ⊎ IsSection l.image e
+
+-- Each name is there that objects define and the image has, unless the words strip; those in thread-local storage may be
+-- missing. sh_info is the number of the LOCAL symbols, which come first.
+abbrev pub has_this_name : ForeignLink → List ℕ → entry.Symbol → Bool
+has_this_name l name e = bytes_eq (name_of_symbol l.image e) name
+
+abbrev pub is_tabled : ForeignLink → SymbolOf → Bool
+is_tabled l s =
+    not (is_local s)
+    && (not (is_undefined s.entry)
+    && (is_some (symbol_value l s) && not (is_in_thread_storage (objects_of l) (Symbol s))))
+
+abbrev pub AreThere : ForeignLink → Type 0
+AreThere l = All (λ s. is_tabled l s ≡ true → Any (λ e. has_this_name l s.name e ≡ true) (symbols l.image)) (all_symbols (objects_of l))
+
+abbrev pub is_local_entry : entry.Symbol → Bool
+is_local_entry e = binding e == STB_LOCAL
+
+pub record IsTableRight (l : ForeignLink) : Type 0 where
+  pub entries : All (IsEntryRight l) (drop 1 (symbols l.image))
+  pub there : l.plan.strips ≡ false → AreThere l
+  pub local_first : (symbol_table (sections l.image)).sh_info ≡ prefix_len is_local_entry (symbols l.image)
+  pub local_all : (symbol_table (sections l.image)).sh_info ≡ count_by is_local_entry (symbols l.image)
+
+pub record AreTablesRight (l : ForeignLink) : Type 0 where
+  pub inside : (file_header l.image).e_shoff + 64 * (file_header l.image).e_shnum ≤ length l.image
+  pub sections_are : All (IsSectionTrue l.image) (sections l.image)
+  pub covered : AreCovered l
+  pub symbols_are : 0 < length (symbols l.image) → IsTableRight l
+
+abbrev pub HasTables : List ℕ → Type 0
+HasTables image = 0 < (file_header image).e_shnum

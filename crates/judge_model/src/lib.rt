@@ -1,0 +1,10 @@
+//! What a right link of another linker is: the certificate that says where its parts are, and what a judge answers.
+//! Beside the profile's definition of a right link, which asks for its own layout, this one takes the image as the
+//! other linker made it (docs/DEFINITIONS.md).
+#![tactic(auto)]
+
+mod certificate;
+mod judgement;
+
+pub use certificate::{Certificate, NameLine, NoteLine};
+pub use judgement::{Judgement, Requirement};
