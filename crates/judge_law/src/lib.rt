@@ -1,0 +1,9 @@
+//! Laws that guard the definition of a right link of another linker: what it leaves open, and what not. It has no code.
+#![tactic(auto)]
+
+ghost use Rattle.judge_law.specs.Determined.{RightLinksHoldTheSame};
+
+/// Two images that one certificate shows to be right hold the same bytes of sections, but where they find slots.
+pub fn right_links_hold_the_same()
+    ensures { RightLinksHoldTheSame }
+{}
