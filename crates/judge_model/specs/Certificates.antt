@@ -16,7 +16,8 @@ pub record NameRow : Type 0 where
   pub name : List ℕ
 
 -- the objects in loading order; the sections with SHF_ALLOC that are left out; the addresses of sections and of common
--- blocks; the notes that the linker made; the names that it or its script defines
+-- blocks; the notes that the linker made; the names that it or its script defines; the address of the GOT, where code asks
+-- for it
 pub record CertificateRecord : Type 0 where
   pub objects : List ObjectRow
   pub drops : List DropLine
@@ -24,6 +25,7 @@ pub record CertificateRecord : Type 0 where
   pub commons : List CommonRow
   pub notes : List NoteLine
   pub names : List NameRow
+  pub got : Option ℕ
 
 abbrev pub name_row : NameLine → NameRow
 name_row l = record { value = l.value; name = l.name.items }
@@ -37,6 +39,7 @@ certificate_of c = record {
   commons = map common_row c.commons.items;
   notes = c.notes.items;
   names = map name_row c.names.items;
+  got = c.got;
 }
 
 abbrev pub NameRowBefore : NameRow → NameRow → Type 0

@@ -6,7 +6,6 @@ use Rattle.byteview.specs.Numbers.{le_bytes}
 use Rattle.elf_model.specs.Image.MemoryImage.{loads}
 use Rattle.elf_model.specs.Image.RightLink.{byte_at}
 use Rattle.elf_model.specs.Inputs.ObjectFile.{rela_type}
-use Rattle.elf_model.specs.Link.LinkerNames.{got_name}
 use Rattle.elf_model.specs.Link.Meaning.{is_in_thread_storage, meaning_size}
 use Rattle.elf_model.specs.Link.Pieces.{load_size}
 use Rattle.elf_model.specs.Link.Placement.{AreApart, Covers, Placed}
@@ -16,7 +15,6 @@ use Rattle.elf_model.specs.declared.link_map.SlotKind.{SlotKind}
 use Rattle.elf_model.specs.declared.link_map.SlotKind.TheVariants as slot
 use Rattle.elf_model.specs.declared.records.ProgramHeader.{ProgramHeader}
 use Rattle.elf_model.specs.declared.thing.Thing.{Thing}
-use Rattle.judge_model.specs.Certificates.{value_of_name}
 use Rattle.judge_model.specs.Links.{ForeignLink, objects_of, relocations_of, sections_of}
 use Rattle.judge_model.specs.Means.{address_of, definition_of, meant}
 use Rattle.judge_model.specs.Memory.{Holds}
@@ -68,9 +66,9 @@ whole_value Z+A x = pos x.z +ℤ x.a
 whole_value T+A x = x.t +ℤ x.a
 whole_value GT+GOT+A-P x = (pos x.slot +ℤ x.a) -ℤ pos x.p
 
--- the GOT's address, by its name; 0 where the certificate gives none
+-- the GOT's address; 0 where the certificate gives none
 abbrev pub got_of : ForeignLink → ℕ
-got_of l = unwrap_or (value_of_name l.certificate.names got_name) 0
+got_of l = unwrap_or l.certificate.got 0
 
 -- the address of a relocation's field; the size of what it names
 abbrev pub field_address : ForeignLink → Relocation → ℕ
@@ -151,7 +149,7 @@ HoldsPlain l r k (Some asked) = (at : ℕ) × HasSlotAt l r at
 abbrev pub HoldsField : ForeignLink → Relocation → Kind → Type 0
 HoldsField l r k =
     (¬ IsMismatch k.formula (is_thread_use l r))
-    × (needs_got k.formula ≡ true → is_some (value_of_name l.certificate.names got_name) ≡ true)
+    × (needs_got k.formula ≡ true → is_some l.certificate.got ≡ true)
     × HoldsPlain l r k (slot_kind_of k.formula)
 
 abbrev pub IsFieldRight : ForeignLink → Relocation → Type 0

@@ -1,7 +1,7 @@
 -- F10. What memory has outside of headers, sections, common blocks, slots and notes: fill. Among the sections of .init and of
 -- .fini it is executed, so there it is whole instructions that do nothing. Elsewhere among code it is such instructions and
 -- breakpoints, and zeros behind them; and zeros where nothing is executed.
-use Rattle.std.specs.Prelude.{◌≡◌, ◌⊎◌, ℕ, ◌+◌, ◌-◌, ◌<◌, ◌≤◌, ◌==◌, Bool, true, false, cond, List, [], ◌∷◌, ◌++◌, Some, All, Any, Contains, bit_and, codes, length, replicate}
+use Rattle.std.specs.Prelude.{◌≡◌, ◌⊎◌, ℕ, ◌+◌, ◌-◌, ◌<◌, ◌≤◌, ◌==◌, Bool, true, false, cond, List, [], ◌∷◌, ◌++◌, None, Some, All, Any, Contains, bit_and, codes, length, replicate}
 use Rattle.std.specs.Str.{bytes_eq}
 use Rattle.elf_model.specs.Image.MemoryImage.{loads}
 use Rattle.elf_model.specs.Link.Pieces.{Piece}
@@ -13,7 +13,8 @@ use Rattle.elf_model.specs.declared.bound.Bound.TheVariants.{ImageEnd}
 use Rattle.judge_model.specs.Certificates.{NameRow}
 use Rattle.judge_model.specs.Names.{bound_of}
 use Rattle.judge_model.specs.Fields.{HasSlotAt, slot_thing}
-use Rattle.judge_model.specs.Links.{ForeignLink, relocations_of, sections_of}
+use Rattle.elf_model.specs.Link.Meaning.{object_meaning}
+use Rattle.judge_model.specs.Links.{ForeignLink, objects_of, relocations_of, sections_of}
 use Rattle.judge_model.specs.Memory.{Holds}
 use Rattle.judge_model.specs.Placed.{things_of}
 use Rattle.judge_model.specs.Runs.{IsBetween}
@@ -94,7 +95,7 @@ pub record IsGapRight (l : ForeignLink) (h : ProgramHeader) (from : ℕ) (bytes 
 -- no slot is behind the name for the end of all
 abbrev pub IsBehindSlots : ForeignLink → NameRow → Type 0
 IsBehindSlots l row =
-    bound_of l row.name ≡ Some ImageEnd → All (λ r. (at : ℕ) → HasSlotAt l r at → at + 8 ≤ row.value) (relocations_of l)
+    object_meaning (objects_of l) row.name ≡ None → bound_of l row.name ≡ Some ImageEnd → All (λ r. (at : ℕ) → HasSlotAt l r at → at + 8 ≤ row.value) (relocations_of l)
 
 pub record IsFilled (l : ForeignLink) : Type 0 where
   pub ends : All (IsBehindSlots l) l.certificate.names

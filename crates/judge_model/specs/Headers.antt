@@ -22,7 +22,8 @@ pub record IsIdent (ident : List ℕ) : Type 0 where
   pub front : take 7 ident ≡ 0x7f ∷ 0x45 ∷ 0x4c ∷ 0x46 ∷ 2 ∷ 1 ∷ 1 ∷ []
   pub system : (slice_index ident 7 ≡ 0) ⊎ (slice_index ident 7 ≡ 3)
 
--- ET_EXEC for x86-64; program headers inside a file of a length behind the file header; section headers of 64 bytes or none
+-- ET_EXEC for x86-64; program headers inside a file of a length behind the file header, of which Linux before 5.18 takes as
+-- many as fit a page; section headers of 64 bytes or none
 pub record IsFileHeader (len : ℕ) (h : FileHeader) : Type 0 where
   pub ident : IsIdent h.e_ident
   pub type_ : h.e_type ≡ 2
@@ -33,6 +34,7 @@ pub record IsFileHeader (len : ℕ) (h : FileHeader) : Type 0 where
   pub program_header_size : h.e_phentsize ≡ 56
   pub section_header_size : (h.e_shentsize ≡ 64) ⊎ ((h.e_shentsize ≡ 0) × (h.e_shnum ≡ 0))
   pub program_headers : h.e_phoff ≡ 64
+  pub few : h.e_phnum ≤ 73
   pub inside : 64 + 56 * h.e_phnum ≤ len
 
 -- Program headers.
@@ -59,16 +61,21 @@ pt_gnu_property = 0x6474e553
 abbrev pub is_many_type : ℕ → Bool
 is_many_type t = t == 1 || t == pt_note
 
+abbrev pub single_types : List ℕ
+single_types = 7 ∷ pt_phdr ∷ pt_gnu_eh_frame ∷ pt_gnu_stack ∷ pt_gnu_relro ∷ pt_gnu_property ∷ []
+
 abbrev pub is_single_type : ℕ → Bool
-is_single_type t =
-    t == 7 || (t == pt_phdr || (t == pt_gnu_eh_frame || (t == pt_gnu_stack || (t == pt_gnu_relro || t == pt_gnu_property))))
+is_single_type t = list_any (λ s. s == t) single_types
 
 abbrev pub is_of_type : ℕ → ProgramHeader → Bool
 is_of_type t h = h.p_type == t
 
+pub record IsSingle (hs : List ProgramHeader) (t : ℕ) : Type 0 where
+  pub count : count_by (is_of_type t) hs ≤ 1
+
 pub record AreTypesRight (hs : List ProgramHeader) : Type 0 where
   pub known : All (λ h. (is_many_type h.p_type || is_single_type h.p_type) ≡ true) hs
-  pub single : (t : ℕ) → is_single_type t ≡ true → count_by (is_of_type t) hs ≤ 1
+  pub single : All (IsSingle hs) single_types
 
 -- A PT_LOAD: some memory, of which the file's part comes first and lies in the file; R and no rights but R, W and X; file
 -- offset and address alike within a page. Behind the file's part Linux clears memory to the page's end where the segment
@@ -103,9 +110,9 @@ abbrev pub BeginsIn : ProgramHeader → ProgramHeader → Type 0
 BeginsIn h g =
     (g.p_vaddr ≤ h.p_vaddr) × (h.p_vaddr ≤ g.p_vaddr + g.p_memsz) × (h.p_offset + g.p_vaddr ≡ g.p_offset + h.p_vaddr)
 
-abbrev pub IsTrueOf : List ProgramHeader → ProgramHeader → Type 0
-IsTrueOf hs h =
-    (is_placed_type h.p_type ≡ true → Any (IsPartOf h) hs) × (h.p_type ≡ pt_gnu_relro → Any (BeginsIn h) hs)
+pub record IsTrueOf (hs : List ProgramHeader) (h : ProgramHeader) : Type 0 where
+  pub part : is_placed_type h.p_type ≡ true → Any (IsPartOf h) hs
+  pub protected : h.p_type ≡ pt_gnu_relro → Any (BeginsIn h) hs
 
 -- PT_PHDR is where the program headers are, and may be larger than these. Where a program asks for thread-local storage or
 -- for frames it finds them through its program headers, which then are in memory.
@@ -156,14 +163,19 @@ may_execute_stack l = l.plan.executes_stack || list_any (λ o. is_executing_note
 abbrev pub IsStackRight : ForeignLink → ProgramHeader → Type 0
 IsStackRight l h = h.p_type ≡ pt_gnu_stack → bit_and h.p_flags PF_X ≡ PF_X → may_execute_stack l ≡ true
 
+-- what the image alone tells: a program that the system maps, whose headers are true
+pub record IsProgram (image : List ℕ) : Type 0 where
+  pub long : 64 ≤ length image
+  pub file : IsFileHeader (length image) (file_header image)
+  pub types : AreTypesRight (program_headers image)
+  pub loads_are : AreLoads (length image) (loads image)
+  pub parts : All (IsTrueOf (loads image)) (program_headers image)
+  pub table : All IsTable (program_headers image)
+  pub mapped : Any (λ h. needs_table h ≡ true) (program_headers image) → HasTable image
+
+-- F12. It is a program, and has no more rights than the link gives it.
 pub record AreHeadersRight (l : ForeignLink) : Type 0 where
-  pub long : 64 ≤ length l.image
-  pub file : IsFileHeader (length l.image) (file_header l.image)
-  pub types : AreTypesRight (program_headers l.image)
-  pub loads_are : AreLoads (length l.image) (loads l.image)
-  pub true_ : All (IsTrueOf (loads l.image)) (program_headers l.image)
-  pub table : All IsTable (program_headers l.image)
-  pub mapped : Any (λ h. needs_table h ≡ true) (program_headers l.image) → HasTable l.image
+  pub program : IsProgram l.image
   pub physical : All (IsPhysical l) (program_headers l.image)
   pub relro : All (ProtectsNone l) (program_headers l.image)
   pub stack : All (IsStackRight l) (program_headers l.image)

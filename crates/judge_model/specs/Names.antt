@@ -13,7 +13,8 @@ use Rattle.elf_model.specs.declared.bound.Bound.{Bound}
 use Rattle.elf_model.specs.declared.bound.Bound.TheVariants.{CodeEnd, DataEnd, GotStart, ImageEnd, ImageStart, OutputEnd, OutputStart, ZeroStart}
 use Rattle.elf_model.specs.declared.records.ProgramHeader.{ProgramHeader}
 use Rattle.judge_model.specs.Certificates.{NameRow, value_of_name}
-use Rattle.judge_model.specs.Links.{ForeignLink, has_output, placed_of}
+use Rattle.elf_model.specs.Link.Meaning.{object_meaning}
+use Rattle.judge_model.specs.Links.{ForeignLink, has_output, objects_of, placed_of}
 use Rattle.judge_model.specs.Placed.{things_of}
 
 -- Where arrays of functions begin and end: the profile's three; and that of the relocations of IFUNC symbols, which no link
@@ -89,19 +90,20 @@ IsStartOf l output v = IsAt l v (unwrap_or (start_of_output l output) 0) (start_
 abbrev pub IsEndOf : ForeignLink → List ℕ → ℕ → Type 0
 IsEndOf l output v = IsAt l v (end_of_pieces (is_of_output output) (placed_of l)) (start_of_output l output)
 
--- the value that a name's bound may have; the GOT's is the one by which fields find it
+-- the value that a name's bound may have
 abbrev pub IsBoundAt : ForeignLink → List ℕ → ℕ → Bound → Type 0
 IsBoundAt l name v ImageStart = v ≡ first_address (loads l.image)
 IsBoundAt l name v CodeEnd = IsEnd l (end_of_pieces is_code_piece (placed_of l)) v
 IsBoundAt l name v DataEnd = IsEnd l (end_of_pieces is_file_data (placed_of l)) v
 IsBoundAt l name v ZeroStart = IsStart l v (start_of_pieces is_zero_data (placed_of l))
 IsBoundAt l name v ImageEnd = IsImageEnd l v
-IsBoundAt l name v GotStart = Unit {0}
+IsBoundAt l name v GotStart = l.certificate.got ≡ Some v
 IsBoundAt l name v OutputStart = IsStartOf l (output_named name) v
 IsBoundAt l name v OutputEnd = IsEndOf l (output_named name) v
 
+-- an object's definition of a name comes before the linker's
 abbrev pub IsBoundRight : ForeignLink → NameRow → Type 0
-IsBoundRight l row = IfSome (bound_of l row.name) (IsBoundAt l row.name row.value)
+IsBoundRight l row = object_meaning (objects_of l) row.name ≡ None → IfSome (bound_of l row.name) (IsBoundAt l row.name row.value)
 
 -- two names for the beginning and the end of one array, of which the image has nothing, have one value
 pub record Pair : Type 0 where
@@ -122,6 +124,8 @@ pairs =
 abbrev pub IsPairRight : ForeignLink → Pair → Type 0
 IsPairRight l p =
     start_of_output l (output_named p.first) ≡ None
+    → object_meaning (objects_of l) p.first ≡ None
+    → object_meaning (objects_of l) p.last ≡ None
     → IfSome (value_of_name l.certificate.names p.first) (λ v. IfSome (value_of_name l.certificate.names p.last) (λ w. v ≡ w))
 
 pub record AreNamesRight (l : ForeignLink) : Type 0 where

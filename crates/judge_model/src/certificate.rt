@@ -16,8 +16,9 @@ pub struct NameLine {
 }
 
 /// Where the parts of a link are: its objects in loading order, the sections that are left out, the addresses of sections
-/// and common blocks, the linker's notes, and the values of the names that the linker or its script defines. Lines of
-/// sections come by object and section, those of common blocks and names by name, those of notes by address.
+/// and common blocks, the linker's notes, the values of the names that the linker or its script defines, and the address
+/// of the global offset table, where code asks for it. Lines of sections come by object and section, those of common blocks
+/// and names by name, those of notes by address.
 #[derive(Debug, Drop)]
 pub struct Certificate {
     pub objects: Vec<ObjectLine>,
@@ -26,4 +27,5 @@ pub struct Certificate {
     pub commons: Vec<CommonLine>,
     pub notes: Vec<NoteLine>,
     pub names: Vec<NameLine>,
+    pub got: Option<u64>,
 }
