@@ -1,1 +1,3 @@
+pub mod Conserved
 pub mod Same
+pub mod SameParts

@@ -1,1 +1,2 @@
+pub mod Conservative
 pub mod Determined

@@ -4,8 +4,7 @@ use Rattle.std.specs.Prelude.{◌≡◌, ◌⊎◌, ℕ, ◌+◌, ◌-◌, ◌*�
 use Rattle.std.specs.Option.{option_or}
 use Rattle.std.specs.Str.{bytes_eq}
 use Rattle.elf_model.specs.Image.MemoryImage.{Encloses, first_address, loads}
-use Rattle.elf_model.specs.Link.LinkerNames.{BoundName, bound_name, fixed_bound, is_start_name, is_stop_name, output_bound}
-use Rattle.elf_model.specs.Link.LinkerNames as profile
+use Rattle.elf_model.specs.Link.LinkerNames.{BoundName, bound_name, fixed_bound, is_start_name, is_stop_name, named_output, output_bound}
 use Rattle.elf_model.specs.Link.LinkerValues.{end_of_pieces, is_code_piece, is_file_data, is_loaded_piece, is_zero_data, start_of_pieces}
 use Rattle.elf_model.specs.Link.Pieces.{is_of_output}
 use Rattle.elf_model.specs.Link.Placement.{Covers}
@@ -17,24 +16,9 @@ use Rattle.elf_model.specs.Link.Meaning.{object_meaning}
 use Rattle.judge_model.specs.Links.{ForeignLink, has_output, objects_of, placed_of}
 use Rattle.judge_model.specs.Placed.{things_of}
 
--- Where arrays of functions begin and end: the profile's three; and that of the relocations of IFUNC symbols, which no link
--- that is judged has.
-abbrev pub relative_name : List ℕ
-relative_name = codes ".rela.iplt"
-
-abbrev pub relative_bound : List ℕ → Option Bound
-relative_bound name =
-    cond (bytes_eq name (codes "__rela_iplt_start")) (Some OutputStart)
-    (cond (bytes_eq name (codes "__rela_iplt_end")) (Some OutputEnd) None)
-
-abbrev pub output_named : List ℕ → List ℕ
-output_named name = cond (is_some (relative_bound name)) relative_name (profile.named_output name)
-
 -- what a name stands for: one that is always defined; __start_N and __stop_N where the image has sections of output name N
 abbrev pub bound_of : ForeignLink → List ℕ → Option Bound
-bound_of l name =
-    option_or (relative_bound name)
-    (option_or (fixed_bound name) (cond (has_output l (output_named name)) (output_bound name) None))
+bound_of l name = option_or (fixed_bound name) (cond (has_output l (named_output name)) (output_bound name) None)
 
 -- no section, common block, header or note is in between
 abbrev pub IsClear : ForeignLink → ℕ → ℕ → Type 0
@@ -98,8 +82,8 @@ IsBoundAt l name v DataEnd = IsEnd l (end_of_pieces is_file_data (placed_of l)) 
 IsBoundAt l name v ZeroStart = IsStart l v (start_of_pieces is_zero_data (placed_of l))
 IsBoundAt l name v ImageEnd = IsImageEnd l v
 IsBoundAt l name v GotStart = l.certificate.got ≡ Some v
-IsBoundAt l name v OutputStart = IsStartOf l (output_named name) v
-IsBoundAt l name v OutputEnd = IsEndOf l (output_named name) v
+IsBoundAt l name v OutputStart = IsStartOf l (named_output name) v
+IsBoundAt l name v OutputEnd = IsEndOf l (named_output name) v
 
 -- an object's definition of a name comes before the linker's
 abbrev pub IsBoundRight : ForeignLink → NameRow → Type 0
@@ -118,12 +102,11 @@ pairs =
     pair (codes "__init_array_start") (codes "__init_array_end")
     ∷ pair (codes "__fini_array_start") (codes "__fini_array_end")
     ∷ pair (codes "__preinit_array_start") (codes "__preinit_array_end")
-    ∷ pair (codes "__rela_iplt_start") (codes "__rela_iplt_end")
     ∷ []
 
 abbrev pub IsPairRight : ForeignLink → Pair → Type 0
 IsPairRight l p =
-    start_of_output l (output_named p.first) ≡ None
+    start_of_output l (named_output p.first) ≡ None
     → object_meaning (objects_of l) p.first ≡ None
     → object_meaning (objects_of l) p.last ≡ None
     → IfSome (value_of_name l.certificate.names p.first) (λ v. IfSome (value_of_name l.certificate.names p.last) (λ w. v ≡ w))

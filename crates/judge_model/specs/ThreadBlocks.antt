@@ -4,9 +4,9 @@ use Rattle.std.specs.Prelude.{◌≡◌, ◌⊎◌, ℕ, ℤ, pos, ◌-ℤ◌, �
 use Rattle.std.specs.Int.{is_power_of_two}
 use Rattle.std.specs.List.{slice_get}
 use Rattle.std.specs.Option.{option_map_or}
-use Rattle.elf_model.specs.Image.MemoryImage.{loads, thread_blocks}
+use Rattle.elf_model.specs.Image.MemoryImage.{Encloses, loads, thread_blocks}
 use Rattle.elf_model.specs.Link.LinkerValues.{end_of_pieces, start_of_pieces}
-use Rattle.elf_model.specs.Link.Pieces.{is_thread_piece, is_thread_zero}
+use Rattle.elf_model.specs.Link.Pieces.{Piece, is_thread_piece, is_thread_zero}
 use Rattle.elf_model.specs.Link.Placement.{Placed, is_thread_place, round_up}
 use Rattle.elf_model.specs.Link.ThreadStorage.{alignment_of, is_some_thread_data, is_thread_data}
 use Rattle.elf_model.specs.declared.records.ProgramHeader.{ProgramHeader}
@@ -19,34 +19,31 @@ thread_pointer header = option_map_or (λ h. round_up h.p_align (h.p_vaddr + h.p
 abbrev pub thread_offset : List ℕ → ℕ → ℤ
 thread_offset image v = pos v -ℤ pos (thread_pointer (slice_get (thread_blocks image) 0))
 
--- the thread-local sections, and those of them that aren't empty
-abbrev pub is_some_place : Placed → Bool
-is_some_place q = is_thread_place q && nat_lt 0 q.piece.size
-
-abbrev pub threads_of : ForeignLink → List Placed
-threads_of l = filter is_thread_place (placed_of l)
-
-abbrev pub some_threads_of : ForeignLink → List Placed
-some_threads_of l = filter is_some_place (placed_of l)
+-- a thread-local section that isn't empty
+abbrev pub is_some_thread : Piece → Bool
+is_some_thread p = is_thread_piece p && nat_lt 0 p.size
 
 -- the block's end: that of the last section, or rounded up to the block's alignment
 abbrev pub EndsAt : ProgramHeader → ℕ → Type 0
 EndsAt h end = (h.p_vaddr + h.p_memsz ≡ end) ⊎ (h.p_vaddr + h.p_memsz ≡ round_up h.p_align end)
 
--- a header is that of the block of some sections: all of them, or those that aren't empty
-pub record IsBlockOf (qs : List Placed) (h : ProgramHeader) : Type 0 where
-  pub start : start_of_pieces is_thread_piece qs ≡ Some h.p_vaddr
-  pub end : EndsAt h (end_of_pieces is_thread_piece qs)
-  pub align : h.p_align ≡ alignment_of is_thread_piece (map (λ q. q.piece) qs)
+-- a header is that of the block of the sections of which a test is true
+pub record IsBlockOf (test : Piece → Bool) (qs : List Placed) (h : ProgramHeader) : Type 0 where
+  pub start : start_of_pieces test qs ≡ Some h.p_vaddr
+  pub end : EndsAt h (end_of_pieces test qs)
+  pub align : h.p_align ≡ alignment_of test (map (λ q. q.piece) qs)
 
--- its initial bytes: up to the end of the last section that has some, where their segment has them
+-- its initial bytes: up to the end of the last section that has some, where a segment has them, at the same place of the file
 abbrev pub HoldsInitial : ProgramHeader → ProgramHeader → Type 0
 HoldsInitial h g =
-    (h.p_offset + g.p_vaddr ≡ g.p_offset + h.p_vaddr)
-    × (0 < h.p_filesz → (g.p_vaddr ≤ h.p_vaddr) × (h.p_vaddr + h.p_filesz ≤ g.p_vaddr + g.p_filesz))
+    (h.p_offset + g.p_vaddr ≡ g.p_offset + h.p_vaddr) × (0 < h.p_filesz → Encloses g h.p_vaddr h.p_filesz)
+
+-- the block is that of all thread-local sections, or of those that aren't empty
+abbrev pub IsSomeBlock : List Placed → ProgramHeader → Type 0
+IsSomeBlock qs h = IsBlockOf is_thread_piece qs h ⊎ IsBlockOf is_some_thread qs h
 
 pub record IsThreadHeader (l : ForeignLink) (h : ProgramHeader) : Type 0 where
-  pub block : IsBlockOf (threads_of l) h ⊎ IsBlockOf (some_threads_of l) h
+  pub block : IsSomeBlock (placed_of l) h
   pub power : is_power_of_two h.p_align ≡ true
   pub initial : h.p_vaddr + h.p_filesz ≡ max h.p_vaddr (end_of_pieces is_some_thread_data (placed_of l))
   pub segment : Any (HoldsInitial h) (loads l.image)
@@ -54,6 +51,6 @@ pub record IsThreadHeader (l : ForeignLink) (h : ProgramHeader) : Type 0 where
 -- F9. There is one such header where a thread-local section has anything, and at most one where all are empty; and no section
 -- without bytes begins before the last one that has some ends.
 pub record IsThreadBlockRight (l : ForeignLink) : Type 0 where
-  pub some : Any (λ q. is_some_place q ≡ true) (placed_of l) → Any (IsThreadHeader l) (thread_blocks l.image)
+  pub some : Any (λ q. is_some_thread q.piece ≡ true) (placed_of l) → Any (IsThreadHeader l) (thread_blocks l.image)
   pub each : All (IsThreadHeader l) (thread_blocks l.image)
   pub before : All (λ q. is_thread_zero q.piece ≡ true → end_of_pieces is_thread_data (placed_of l) ≤ q.at) (placed_of l)

@@ -1,0 +1,61 @@
+-- The statement that the profile's check is no weaker than a judge of other linkers' links: what a link that it accepts meets
+-- of the requirements of a right link of another linker, with the lines of its map as the certificate.
+use Rattle.std.specs.Prelude.{◌≡◌, List, [], None, false, map, option_map}
+use Rattle.elf_model.specs.Image.MapRecord.{SymbolRow}
+use Rattle.elf_model.specs.Image.RightLink.{Holds, Subject}
+use Rattle.elf_model.specs.Inputs.Command.{Plan}
+use Rattle.elf_model.specs.Link.Loading.{loaded_objects}
+use Rattle.elf_model.specs.declared.verdict.Clause.{Clause}
+use Rattle.judge_model.specs.Certificates.{CertificateRecord, NameRow}
+use Rattle.judge_model.specs.Links.{ForeignLink}
+use Rattle.judge_model.specs.Loaded.{objects_in_order}
+use Rattle.judge_model.specs.Plans.{ForeignPlan}
+use Rattle.judge_model.specs.RightForeign as foreign
+use Rattle.judge_model.specs.declared.judgement.Requirement.{Requirement}
+use Rattle.judge_model.specs.declared.judgement.Requirement.TheVariants.{F2, F7}
+
+-- words of the profile ask for nothing but its plan
+abbrev pub plain_plan : Plan → ForeignPlan
+plain_plan p = record {
+  plan = p;
+  collects = false;
+  takes_first = false;
+  writes_code = false;
+  executes_stack = false;
+  features = 0;
+  segment = None;
+  starts = [];
+  strips = p.strip;
+  strips_local = false;
+  script = None;
+}
+
+-- the lines of a map as a certificate, and the link with it
+abbrev pub names_of : List SymbolRow → List NameRow
+names_of rows = map (λ row. record { value = row.address; name = row.name }) rows
+
+abbrev pub certificate_of : Subject → CertificateRecord
+certificate_of s = record {
+  objects = s.map.objects;
+  drops = [];
+  places = s.map.places;
+  commons = s.map.commons;
+  notes = [];
+  names = names_of s.map.symbols;
+  got = option_map (λ g. g.address) s.map.got;
+}
+
+abbrev pub foreign_of : Subject → ForeignLink
+foreign_of s = record { plan = plain_plan s.plan; files = s.files; image = s.image; certificate = certificate_of s }
+
+-- the objects of the map's lines, in their order, are those that the rules load
+abbrev pub AreInOrder : Subject → Type 0
+AreInOrder s = objects_in_order s.files s.plan s.map.objects ≡ loaded_objects s.files s.plan
+
+-- which sections are in the image, and the bytes outside of fields
+pub record MeetsBytes (s : Subject) : Type 0 where
+  pub kept : foreign.Holds F2 (foreign_of s)
+  pub bytes : foreign.Holds F7 (foreign_of s)
+
+abbrev pub CheckedLinksHoldTheirBytes : Type 0
+CheckedLinksHoldTheirBytes = (s : Subject) → AreInOrder s → ((c : Clause) → Holds c s) → MeetsBytes s
