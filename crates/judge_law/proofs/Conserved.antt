@@ -26,7 +26,8 @@ use Rattle.judge_model.specs.Kept.{is_excluded, shf_exclude}
 use Rattle.judge_model.specs.Links.{is_in_image, objects_of, placed_of, relocations_of}
 use Rattle.judge_model.specs.Plans.{is_discarded}
 use Rattle.judge_law.proofs.SameParts.{placed_same, relocations_same}
-use Rattle.judge_law.specs.Conservative.{AreInOrder, CheckedLinksHoldTheirBytes, foreign_of}
+use Rattle.judge_law.proofs.ThreadConserved.{thread_block_right}
+use Rattle.judge_law.specs.Conservative.{AreInOrder, CheckedLinksAreRight, foreign_of}
 
 -- lawful flags have no SHF_EXCLUDE
 not_excluded : (h : SectionHeader) → bit_and h.sh_flags lawful_flags ≡ h.sh_flags → has_flag shf_exclude h ≡ false
@@ -96,12 +97,13 @@ module _ (s : Subject) (order : AreInOrder s) (holds : (c : Clause) → right.Ho
       let lawful = All-contains (λ (p : Piece). IsLawfulKind p.header) (kept_sections (right.objects_of s)) p (holds C3).kinds c in
       absurd (false≢true (sym (ap (λ (b : Bool). b || is_discarded (foreign_of s).plan p.name) (not_excluded p.header lawful.flags)) ∙ e))))
 
-pub checked_links_hold : CheckedLinksHoldTheirBytes
-checked_links_hold s order holds = record {
+pub checked_links_right : CheckedLinksAreRight
+checked_links_right s order holds = record {
   kept = record {
     excluded = none_excluded s order holds;
     all = λ none k p within other. refl;
     collected = λ e. absurd (false≢true e);
   };
   bytes = all_rest s order holds;
+  thread_block = thread_block_right s order holds;
 }

@@ -1,3 +1,4 @@
 pub mod Conserved
 pub mod Same
 pub mod SameParts
+pub mod ThreadConserved

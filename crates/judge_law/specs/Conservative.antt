@@ -12,7 +12,7 @@ use Rattle.judge_model.specs.Loaded.{objects_in_order}
 use Rattle.judge_model.specs.Plans.{ForeignPlan}
 use Rattle.judge_model.specs.RightForeign as foreign
 use Rattle.judge_model.specs.declared.judgement.Requirement.{Requirement}
-use Rattle.judge_model.specs.declared.judgement.Requirement.TheVariants.{F2, F7}
+use Rattle.judge_model.specs.declared.judgement.Requirement.TheVariants.{F2, F7, F9}
 
 -- words of the profile ask for nothing but its plan
 abbrev pub plain_plan : Plan → ForeignPlan
@@ -52,10 +52,11 @@ foreign_of s = record { plan = plain_plan s.plan; files = s.files; image = s.ima
 abbrev pub AreInOrder : Subject → Type 0
 AreInOrder s = objects_in_order s.files s.plan s.map.objects ≡ loaded_objects s.files s.plan
 
--- which sections are in the image, and the bytes outside of fields
-pub record MeetsBytes (s : Subject) : Type 0 where
+-- which sections are in the image, the bytes outside of fields, and the block of thread-local storage
+pub record MeetsRequirements (s : Subject) : Type 0 where
   pub kept : foreign.Holds F2 (foreign_of s)
   pub bytes : foreign.Holds F7 (foreign_of s)
+  pub thread_block : foreign.Holds F9 (foreign_of s)
 
-abbrev pub CheckedLinksHoldTheirBytes : Type 0
-CheckedLinksHoldTheirBytes = (s : Subject) → AreInOrder s → ((c : Clause) → Holds c s) → MeetsBytes s
+abbrev pub CheckedLinksAreRight : Type 0
+CheckedLinksAreRight = (s : Subject) → AreInOrder s → ((c : Clause) → Holds c s) → MeetsRequirements s

@@ -1,7 +1,7 @@
 //! Laws that guard the definition of a right link of another linker: what it leaves open, and what not. It has no code.
 #![tactic(auto)]
 
-ghost use Rattle.judge_law.specs.Conservative.{CheckedLinksHoldTheirBytes};
+ghost use Rattle.judge_law.specs.Conservative.{CheckedLinksAreRight};
 ghost use Rattle.judge_law.specs.Determined.{RightLinksHoldTheSame};
 
 /// Two images that one certificate shows to be right hold the same bytes of sections, but where they find slots.
@@ -9,7 +9,8 @@ pub fn right_links_hold_the_same()
     ensures { RightLinksHoldTheSame }
 {}
 
-/// A link that the profile's check accepts has the sections that a right link has, and holds their bytes outside of fields.
-pub fn checked_links_hold_their_bytes()
-    ensures { CheckedLinksHoldTheirBytes }
+/// A link that the profile's check accepts meets requirements of a right link of another linker: it has the sections, their
+/// bytes outside of fields, and the block of thread-local storage.
+pub fn checked_links_are_right()
+    ensures { CheckedLinksAreRight }
 {}

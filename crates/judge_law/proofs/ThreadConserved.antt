@@ -1,0 +1,124 @@
+-- The block of thread-local storage of a link that the profile's check accepts is right for a judge.
+use Rattle.std.proofs.Common.{◌∙◌, ap, arith, inl, inr, refl, subst, sym, get_or}
+use Rattle.std.specs.Prelude.{◌≡◌, ◌⊎◌, ◌+◌, ◌-◌, ◌<◌, ◌≤◌, ◌&&◌, ℕ, Bool, true, false, List, [], ◌∷◌, Option, None, Some, All, Any, Contains, cond, filter, length, max, nat_lt}
+use Rattle.std.specs.Option.{option_map, option_map_or}
+use Rattle.std.specs.List.{prefix_len}
+use Rattle.std.specs.Int.{is_power_of_two}
+use Rattle.std.proofs.lemmas.Bool.{and_parts, cases_lt, eqb-true, false≢true}
+use Rattle.std.proofs.lemmas.List.Elements.{All-cons, All-contains, All-nil}
+use Rattle.elf_model.proofs.Finding.{Any-from_contains, Any-here}
+use Rattle.elf_model.proofs.Listed.{Contains-from_filter, Contains-here}
+use Rattle.elf_model.proofs.PieceBounds.{EndsBy, IsStart, all_end, start_is}
+use Rattle.elf_model.specs.Image.MemoryImage.{Encloses, IsGoodLoad, IsGoodThreadBlock, IsImage, IsInOrder, first_address, is_load, is_thread_block, loads, loads_in, program_headers, thread_blocks}
+use Rattle.elf_model.specs.Image.RightLink as right
+use Rattle.elf_model.specs.Image.RightLink.{Subject}
+use Rattle.elf_model.specs.Link.LinkerValues.{end_of_pieces, start_of_pieces}
+use Rattle.elf_model.specs.Link.Pieces.{Piece, is_thread_piece, is_thread_zero}
+use Rattle.elf_model.specs.Link.Placement.{Placed}
+use Rattle.elf_model.specs.Link.ThreadStorage.{block_from, is_some_thread_data, is_thread_data, thread_block, thread_header, thread_headers}
+use Rattle.elf_model.specs.declared.records.ProgramHeader.{ProgramHeader}
+use Rattle.elf_model.specs.declared.verdict.Clause.{Clause}
+use Rattle.elf_model.specs.declared.verdict.Clause.TheVariants.{C4, C8}
+use Rattle.judge_model.specs.Links.{placed_of}
+use Rattle.judge_model.specs.ThreadBlocks.{HoldsInitial, IsBlockOf, IsThreadBlockRight, IsThreadHeader, is_some_thread}
+use Rattle.judge_law.proofs.SameParts.{placed_same}
+use Rattle.judge_law.specs.Conservative.{AreInOrder, foreign_of}
+
+-- what one claim gives another for each element
+any_more : {X : Type 0} (P Q : X → Type 0) (xs : List X) → ((x : X) → Contains xs x → P x → Q x) → Any P xs → Any Q xs
+any_more P Q xs more (i, x, low, is, p) = Any-from_contains Q xs x (i, low, is) (more x (i, low, is) p)
+
+-- the block begins before it ends
+start_below : (qs : List Placed) (a : ℕ) → IsStart is_thread_piece (Some a) qs → a ≤ end_of_pieces is_thread_piece qs
+start_below qs a start =
+    let q = start.1.0 in
+    let end = All-contains (EndsBy is_thread_piece (end_of_pieces is_thread_piece qs)) qs q (all_end is_thread_piece qs) start.1.1 start.1.2 in
+    let is = start.1.3 in
+    omega (arith, end, is)
+
+-- an image has a segment
+first_load : (hs : List ProgramHeader) → 0 < prefix_len is_load hs → (h : ProgramHeader) × Contains (loads_in hs) h
+first_load [] some = absurd (omega (arith, some))
+first_load (h ∷ hs) some = by (is_load h) some
+  where
+    by : (b : Bool) → 0 < cond b (1 + prefix_len is_load hs) 0 → (g : ProgramHeader) × Contains (cond b (h ∷ loads_in hs) (loads_in hs)) g
+    by true some = (h, Contains-here (loads_in hs) h)
+    by false some = absurd (omega (arith, some))
+
+module _ (s : Subject) (order : AreInOrder s) (holds : (c : Clause) → right.Holds c s) where
+  abbrev qs : List Placed
+  qs = right.placed_of s
+
+  -- the one header
+  abbrev header : ℕ → ProgramHeader
+  header a = thread_header s.plan.base qs (block_from qs a)
+
+  good_block : (h : ProgramHeader) → Contains (thread_blocks s.image) h → IsGoodThreadBlock (first_address (loads s.image)) h
+  good_block h c =
+      let there = Contains-from_filter is_thread_block (program_headers s.image) h c in
+      All-contains (λ (h : ProgramHeader). h.p_type ≡ 7 → IsGoodThreadBlock (first_address (loads s.image)) h) (program_headers s.image) h
+      (holds C4).segments.thread_blocks there.0 (eqb-true h.p_type 7 there.1)
+
+  good_load : (g : ProgramHeader) → Contains (loads s.image) g → IsGoodLoad (first_address (loads s.image)) (length s.image) g
+  good_load g c = All-contains (IsGoodLoad (first_address (loads s.image)) (length s.image)) (loads s.image) g (holds C4).segments.segments c
+
+  same_offset : (h g : ProgramHeader) → Contains (thread_blocks s.image) h → Contains (loads s.image) g → h.p_offset + g.p_vaddr ≡ g.p_offset + h.p_vaddr
+  same_offset h g c d =
+      let a = (good_block h c).offset in
+      let b = (good_load g d).offset in
+      omega (arith, a, b)
+
+  initial_there : (h : ProgramHeader) → Contains (thread_blocks s.image) h → Any (HoldsInitial h) (loads s.image)
+  initial_there h c = by (cases_lt 0 h.p_filesz)
+    where
+      by : (0 < h.p_filesz) ⊎ (h.p_filesz ≤ 0) → Any (HoldsInitial h) (loads s.image)
+      by (inl some) =
+          any_more (λ g. Encloses g h.p_vaddr h.p_filesz) (HoldsInitial h) (loads s.image) (λ g d inside. (same_offset h g c d, λ more. inside))
+          (All-contains (right.HoldsInitial (loads s.image)) (thread_blocks s.image) h (holds C8).held c some)
+      by (inr none) =
+          let g = first_load (program_headers s.image) (holds C4).order.a_load in
+          Any-from_contains (HoldsInitial h) (loads s.image) g.0 g.1 (same_offset h g.0 c g.1, λ more. absurd (omega (arith, none, more)))
+
+  right_header : (a : ℕ) → start_of_pieces is_thread_piece qs ≡ Some a → Contains (thread_blocks s.image) (header a) → IsThreadHeader (foreign_of s) (header a)
+  right_header a e c = record {
+    block = inl (subst (λ ps. IsBlockOf is_thread_piece ps (header a)) (sym (placed_same s order holds)) (record {
+      start = e;
+      end = inl (let l = start_below qs a (subst (λ o. IsStart is_thread_piece o qs) e (start_is is_thread_piece qs)) in omega (arith, l));
+      align = refl;
+    }));
+    power = (good_block (header a) c).align;
+    initial =
+        subst (λ ps. a + (end_of_pieces is_some_thread_data qs - a) ≡ max a (end_of_pieces is_some_thread_data ps)) (sym (placed_same s order holds))
+        (omega arith);
+    segment = initial_there (header a) c;
+  }
+
+  each_by :
+      (o : Option ℕ) → start_of_pieces is_thread_piece qs ≡ o
+      → thread_blocks s.image ≡ option_map_or (λ b. thread_header s.plan.base qs b ∷ []) (option_map (block_from qs) o) []
+      → All (IsThreadHeader (foreign_of s)) (thread_blocks s.image)
+      × (Any (λ q. is_some_thread q.piece ≡ true) qs → Any (IsThreadHeader (foreign_of s)) (thread_blocks s.image))
+  each_by None e is = (
+    subst (All (IsThreadHeader (foreign_of s))) (sym is) (All-nil (IsThreadHeader (foreign_of s))),
+    λ (i, q, low, at, some).
+        absurd
+        (All-contains (λ (q : Placed). is_thread_piece q.piece ≡ true → ⊥) qs q
+        (subst (λ o. IsStart is_thread_piece o qs) e (start_is is_thread_piece qs)) (i, low, at) (and_parts _ _ some).0),
+  )
+  each_by (Some a) e is =
+      let there : Contains (thread_blocks s.image) (header a) = subst (λ hs. Contains hs (header a)) (sym is) (Contains-here [] (header a)) in
+      let here = right_header a e there in (
+        subst (All (IsThreadHeader (foreign_of s))) (sym is)
+        (All-cons (IsThreadHeader (foreign_of s)) (header a) [] here (All-nil (IsThreadHeader (foreign_of s)))),
+        λ some. Any-from_contains (IsThreadHeader (foreign_of s)) (thread_blocks s.image) (header a) there here,
+      )
+
+  pub thread_block_right : IsThreadBlockRight (foreign_of s)
+  thread_block_right =
+      let both = each_by (start_of_pieces is_thread_piece qs) refl (holds C8).headers in record {
+        some = λ some. both.1 (subst (Any (λ q. is_some_thread q.piece ≡ true)) (placed_same s order holds) some);
+        each = both.0;
+        before =
+            subst (λ ps. All (λ q. is_thread_zero q.piece ≡ true → end_of_pieces is_thread_data ps ≤ q.at) ps) (sym (placed_same s order holds))
+            (holds C8).before;
+      }

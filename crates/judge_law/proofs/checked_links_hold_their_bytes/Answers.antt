@@ -1,6 +1,0 @@
--- The law is proved on lists of sections and relocations.
-use Rattle.judge_law.proofs.Conserved.{checked_links_hold}
-use Rattle.judge_law.proofs.checked_links_hold_their_bytes.Goals as goal
-
-pub returns : goal.returns
-returns c = checked_links_hold
