@@ -1,6 +1,6 @@
 -- A link that the profile's check accepts has all its sections, and their bytes.
-use Rattle.std.proofs.Common.{◌∙◌, ap, arith, refl, subst, sym}
-use Rattle.std.specs.Prelude.{◌≡◌, ◌≢◌, ◌+◌, ◌<◌, ◌==◌, ◌||◌, ℕ, Bool, true, false, List, Option, None, Some, IsSome, All, Contains, bit_and, find, option_map, slice_index, unwrap_or}
+use Rattle.std.proofs.Common.{◌∙◌, ap, refl, subst, sym}
+use Rattle.std.specs.Prelude.{◌≡◌, ◌+◌, ◌<◌, ◌==◌, ◌||◌, ℕ, Bool, true, false, List, Option, Some, IsSome, All, Contains, bit_and, option_map, unwrap_or}
 use Rattle.std.proofs.lemmas.Bool.{eqb-true, false≢true}
 use Rattle.std.proofs.lemmas.List.Elements.{All-contains}
 use Rattle.std.proofs.lemmas.Nat.{and_assoc}
@@ -12,7 +12,7 @@ use Rattle.elf_model.specs.Image.RightLink as right
 use Rattle.elf_model.specs.Image.RightLink.{HoldsPiece, Subject, byte_at}
 use Rattle.elf_model.specs.Inputs.ObjectFile.{rela_type}
 use Rattle.elf_model.specs.Link.Loading.{LoadedObject}
-use Rattle.elf_model.specs.Link.Pieces.{IsLawfulKind, Piece, has_flag, kept_sections, lawful_flags, load_size}
+use Rattle.elf_model.specs.Link.Pieces.{IsLawfulKind, Piece, has_flag, kept_sections, lawful_flags}
 use Rattle.elf_model.specs.Link.Placement.{Placed}
 use Rattle.elf_model.specs.Link.Relocation.{IsLawfulRelocation, Kind, Relocation, is_in_field, kind_of, relocation_kind, relocations}
 use Rattle.elf_model.specs.Link.Relocation as profile
@@ -25,9 +25,9 @@ use Rattle.judge_model.specs.Fields.{HoldsRest, IsInField}
 use Rattle.judge_model.specs.Kept.{is_excluded, shf_exclude}
 use Rattle.judge_model.specs.Links.{is_in_image, objects_of, placed_of, relocations_of}
 use Rattle.judge_model.specs.Plans.{is_discarded}
-use Rattle.judge_law.proofs.SameParts.{placed_same, relocations_same}
+use Rattle.judge_law.proofs.SameParts.{AreInOrder, in_order, placed_same, relocations_same}
 use Rattle.judge_law.proofs.ThreadConserved.{thread_block_right}
-use Rattle.judge_law.specs.Conservative.{AreInOrder, CheckedLinksAreRight, foreign_of}
+use Rattle.judge_law.specs.Conservative.{CheckedLinksAreRight, foreign_of}
 
 -- lawful flags have no SHF_EXCLUDE
 not_excluded : (h : SectionHeader) → bit_and h.sh_flags lawful_flags ≡ h.sh_flags → has_flag shf_exclude h ≡ false
@@ -98,7 +98,7 @@ module _ (s : Subject) (order : AreInOrder s) (holds : (c : Clause) → right.Ho
       absurd (false≢true (sym (ap (λ (b : Bool). b || is_discarded (foreign_of s).plan p.name) (not_excluded p.header lawful.flags)) ∙ e))))
 
 pub checked_links_right : CheckedLinksAreRight
-checked_links_right s order holds = record {
+checked_links_right s holds = let order = in_order s holds in record {
   kept = record {
     excluded = none_excluded s order holds;
     all = λ none k p within other. refl;

@@ -1,23 +1,17 @@
 -- Two images that one certificate shows to be right hold the same bytes: what is wanted of a byte outside of fields is the
 -- input's, and of a field its formula's value, of which no part is the image's but the thread pointer.
-use Rattle.std.proofs.Common.{◌∙◌, ap, arith, refl, subst, sym}
-use Rattle.std.specs.Prelude.{◌≡◌, ℕ, ℤ, pos, ◌-ℤ◌, ◌+◌, ◌<◌, ◌*◌, List, Option, None, Some, All, Contains, IfSome, IsSomeAnd, length, option_map, unwrap_or, slice_index}
-use Rattle.std.specs.List.{slice_get}
+use Rattle.std.proofs.Common.{◌∙◌, ap, refl, subst, sym}
+use Rattle.std.specs.Prelude.{◌≡◌, ℕ, pos, ◌-ℤ◌, ◌+◌, ◌<◌, List, Option, None, Some, IfSome, IsSomeAnd, option_map, unwrap_or, slice_index}
 use Rattle.std.proofs.lemmas.List.Elements.{All-contains}
 use Rattle.byteview.specs.Numbers.{le_bytes}
 use Rattle.byteview.proofs.NumberLaws.{length-le_bytes}
 use Rattle.elf_model.proofs.Listed.{All-from_contains}
-use Rattle.elf_model.specs.Image.MemoryImage.{thread_blocks}
 use Rattle.elf_model.specs.Image.RightLink.{byte_at}
-use Rattle.elf_model.specs.Link.Pieces.{load_size}
-use Rattle.elf_model.specs.Link.Placement.{Placed}
 use Rattle.elf_model.specs.Link.Relocation.{Kind, Relocation, modulo_64}
 use Rattle.elf_model.specs.Link.Slots.{slot_kind_of}
-use Rattle.elf_model.specs.declared.link_map.SlotKind.{SlotKind}
-use Rattle.judge_model.specs.Fields.{HoldsField, HoldsPlain, HoldsRest, HoldsValue, IsFieldRight, IsInField, field_address, field_value, got_of, kind_of, letters, size_of, whole_value, width_of}
+use Rattle.judge_model.specs.Fields.{HoldsField, HoldsPlain, HoldsRest, HoldsValue, IsFieldRight, field_address, field_value, got_of, kind_of, size_of, whole_value}
 use Rattle.judge_model.specs.Links.{ForeignLink, placed_of, relocations_of}
 use Rattle.judge_model.specs.Means.{meant}
-use Rattle.judge_model.specs.RightForeign.{IsShown}
 use Rattle.judge_model.specs.declared.judgement.Requirement.TheVariants.{F5, F7}
 use Rattle.judge_law.specs.Determined.{AreSameInField, AreSameOutside, RightLinksHoldTheSame, pointer_of, with_image}
 

@@ -1,8 +1,7 @@
 -- The parts of a link that the profile's check accepts are those that a judge sees with the map's lines as the certificate.
-use Rattle.std.proofs.Common.{◌∙◌, ap, arith, inl, inr, refl, subst, sym}
-use Rattle.std.specs.Prelude.{◌≡◌, ◌⊎◌, ◌++◌, ◌||◌, ◌&&◌, ◌==◌, ℕ, Bool, true, false, List, [], ◌∷◌, Option, None, Some, All, Contains, cond, find, filter, is_some, map, option_map}
+use Rattle.std.proofs.Common.{◌∙◌, ap, inl, inr, refl, subst, sym}
+use Rattle.std.specs.Prelude.{◌≡◌, ◌⊎◌, ◌++◌, ◌||◌, ◌&&◌, ◌==◌, Bool, true, false, List, [], ◌∷◌, Option, None, Some, All, Contains, cond, find, filter, is_some, map, option_map}
 use Rattle.std.specs.List.{list_any}
-use Rattle.std.specs.Str.{bytes_eq}
 use Rattle.std.proofs.lemmas.Bool.{and_from, eq-eqb, false≢true}
 use Rattle.std.proofs.lemmas.Slice.Eq.{bytes_eq-Decides}
 use Rattle.elf_model.proofs.Finding.{filter-all}
@@ -14,12 +13,21 @@ use Rattle.elf_model.specs.Link.Commons.{Block, block_named, blocks, is_block_of
 use Rattle.elf_model.specs.Link.Loading.{LoadedObject}
 use Rattle.elf_model.specs.Link.Pieces.{Piece, kept_sections}
 use Rattle.elf_model.specs.Link.Placement.{Placed, is_common_row_of, placed_blocks, placed_by}
-use Rattle.elf_model.specs.Link.Relocation.{Relocation, relocations}
+use Rattle.elf_model.specs.Link.Relocation.{relocations}
 use Rattle.elf_model.specs.declared.verdict.Clause.{Clause}
-use Rattle.elf_model.specs.declared.verdict.Clause.TheVariants.{C3}
+use Rattle.elf_model.specs.declared.verdict.Clause.TheVariants.{C2, C3}
 use Rattle.judge_model.specs.Certificates.{has_place}
-use Rattle.judge_model.specs.Links.{ForeignLink, blocks_of, has_common_line, is_in_image, is_in_image_too, is_plain, objects_of, pieces_of, placed_of, plain_pieces, relocations_of, sections_of}
-use Rattle.judge_law.specs.Conservative.{AreInOrder, foreign_of}
+use Rattle.judge_model.specs.Links.{blocks_of, has_common_line, is_in_image, is_in_image_too, is_plain, objects_of, pieces_of, placed_of, plain_pieces, relocations_of, sections_of}
+use Rattle.judge_model.specs.Loaded.{objects_in_order}
+use Rattle.judge_law.proofs.InOrder.{loaded_in_order}
+use Rattle.judge_law.specs.Conservative.{foreign_of}
+
+-- the objects of the map's lines, in their order, are those that the rules load
+abbrev pub AreInOrder : Subject → Type 0
+AreInOrder s = objects_of (foreign_of s) ≡ right.objects_of s
+
+pub in_order : (s : Subject) → ((c : Clause) → Holds c s) → AreInOrder s
+in_order s holds = ap (objects_in_order s.files s.plan) (holds C2).rows ∙ loaded_in_order s.files s.plan
 
 or_right : (a b : Bool) → b ≡ true → (a || b) ≡ true
 or_right true b e = refl

@@ -1,28 +1,26 @@
 -- The block of thread-local storage of a link that the profile's check accepts is right for a judge.
-use Rattle.std.proofs.Common.{◌∙◌, ap, arith, inl, inr, refl, subst, sym, get_or}
-use Rattle.std.specs.Prelude.{◌≡◌, ◌⊎◌, ◌+◌, ◌-◌, ◌<◌, ◌≤◌, ◌&&◌, ℕ, Bool, true, false, List, [], ◌∷◌, Option, None, Some, All, Any, Contains, cond, filter, length, max, nat_lt}
+use Rattle.std.proofs.Common.{arith, inl, inr, refl, subst, sym}
+use Rattle.std.specs.Prelude.{◌≡◌, ◌⊎◌, ◌+◌, ◌-◌, ◌<◌, ◌≤◌, ℕ, Bool, true, false, List, [], ◌∷◌, Option, None, Some, All, Any, Contains, cond, length, max}
 use Rattle.std.specs.Option.{option_map, option_map_or}
 use Rattle.std.specs.List.{prefix_len}
-use Rattle.std.specs.Int.{is_power_of_two}
-use Rattle.std.proofs.lemmas.Bool.{and_parts, cases_lt, eqb-true, false≢true}
+use Rattle.std.proofs.lemmas.Bool.{and_parts, cases_lt, eqb-true}
 use Rattle.std.proofs.lemmas.List.Elements.{All-cons, All-contains, All-nil}
-use Rattle.elf_model.proofs.Finding.{Any-from_contains, Any-here}
+use Rattle.elf_model.proofs.Finding.{Any-from_contains}
 use Rattle.elf_model.proofs.Listed.{Contains-from_filter, Contains-here}
 use Rattle.elf_model.proofs.PieceBounds.{EndsBy, IsStart, all_end, start_is}
-use Rattle.elf_model.specs.Image.MemoryImage.{Encloses, IsGoodLoad, IsGoodThreadBlock, IsImage, IsInOrder, first_address, is_load, is_thread_block, loads, loads_in, program_headers, thread_blocks}
+use Rattle.elf_model.specs.Image.MemoryImage.{Encloses, IsGoodLoad, IsGoodThreadBlock, first_address, is_load, is_thread_block, loads, loads_in, program_headers, thread_blocks}
 use Rattle.elf_model.specs.Image.RightLink as right
 use Rattle.elf_model.specs.Image.RightLink.{Subject}
 use Rattle.elf_model.specs.Link.LinkerValues.{end_of_pieces, start_of_pieces}
-use Rattle.elf_model.specs.Link.Pieces.{Piece, is_thread_piece, is_thread_zero}
+use Rattle.elf_model.specs.Link.Pieces.{is_thread_piece, is_thread_zero}
 use Rattle.elf_model.specs.Link.Placement.{Placed}
-use Rattle.elf_model.specs.Link.ThreadStorage.{block_from, is_some_thread_data, is_thread_data, thread_block, thread_header, thread_headers}
+use Rattle.elf_model.specs.Link.ThreadStorage.{block_from, is_some_thread_data, is_thread_data, thread_header}
 use Rattle.elf_model.specs.declared.records.ProgramHeader.{ProgramHeader}
 use Rattle.elf_model.specs.declared.verdict.Clause.{Clause}
 use Rattle.elf_model.specs.declared.verdict.Clause.TheVariants.{C4, C8}
-use Rattle.judge_model.specs.Links.{placed_of}
 use Rattle.judge_model.specs.ThreadBlocks.{HoldsInitial, IsBlockOf, IsThreadBlockRight, IsThreadHeader, is_some_thread}
-use Rattle.judge_law.proofs.SameParts.{placed_same}
-use Rattle.judge_law.specs.Conservative.{AreInOrder, foreign_of}
+use Rattle.judge_law.proofs.SameParts.{AreInOrder, placed_same}
+use Rattle.judge_law.specs.Conservative.{foreign_of}
 
 -- what one claim gives another for each element
 any_more : {X : Type 0} (P Q : X → Type 0) (xs : List X) → ((x : X) → Contains xs x → P x → Q x) → Any P xs → Any Q xs
@@ -109,7 +107,7 @@ module _ (s : Subject) (order : AreInOrder s) (holds : (c : Clause) → right.Ho
       let there : Contains (thread_blocks s.image) (header a) = subst (λ hs. Contains hs (header a)) (sym is) (Contains-here [] (header a)) in
       let here = right_header a e there in (
         subst (All (IsThreadHeader (foreign_of s))) (sym is)
-        (All-cons (IsThreadHeader (foreign_of s)) (header a) [] here (All-nil (IsThreadHeader (foreign_of s)))),
+            (All-cons (IsThreadHeader (foreign_of s)) (header a) [] here (All-nil (IsThreadHeader (foreign_of s)))),
         λ some. Any-from_contains (IsThreadHeader (foreign_of s)) (thread_blocks s.image) (header a) there here,
       )
 

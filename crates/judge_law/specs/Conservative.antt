@@ -1,17 +1,14 @@
 -- The statement that the profile's check is no weaker than a judge of other linkers' links: what a link that it accepts meets
 -- of the requirements of a right link of another linker, with the lines of its map as the certificate.
-use Rattle.std.specs.Prelude.{◌≡◌, List, [], None, false, map, option_map}
+use Rattle.std.specs.Prelude.{List, [], None, false, map, option_map}
 use Rattle.elf_model.specs.Image.MapRecord.{SymbolRow}
 use Rattle.elf_model.specs.Image.RightLink.{Holds, Subject}
 use Rattle.elf_model.specs.Inputs.Command.{Plan}
-use Rattle.elf_model.specs.Link.Loading.{loaded_objects}
 use Rattle.elf_model.specs.declared.verdict.Clause.{Clause}
 use Rattle.judge_model.specs.Certificates.{CertificateRecord, NameRow}
 use Rattle.judge_model.specs.Links.{ForeignLink}
-use Rattle.judge_model.specs.Loaded.{objects_in_order}
 use Rattle.judge_model.specs.Plans.{ForeignPlan}
 use Rattle.judge_model.specs.RightForeign as foreign
-use Rattle.judge_model.specs.declared.judgement.Requirement.{Requirement}
 use Rattle.judge_model.specs.declared.judgement.Requirement.TheVariants.{F2, F7, F9}
 
 -- words of the profile ask for nothing but its plan
@@ -48,10 +45,6 @@ certificate_of s = record {
 abbrev pub foreign_of : Subject → ForeignLink
 foreign_of s = record { plan = plain_plan s.plan; files = s.files; image = s.image; certificate = certificate_of s }
 
--- the objects of the map's lines, in their order, are those that the rules load
-abbrev pub AreInOrder : Subject → Type 0
-AreInOrder s = objects_in_order s.files s.plan s.map.objects ≡ loaded_objects s.files s.plan
-
 -- which sections are in the image, the bytes outside of fields, and the block of thread-local storage
 pub record MeetsRequirements (s : Subject) : Type 0 where
   pub kept : foreign.Holds F2 (foreign_of s)
@@ -59,4 +52,4 @@ pub record MeetsRequirements (s : Subject) : Type 0 where
   pub thread_block : foreign.Holds F9 (foreign_of s)
 
 abbrev pub CheckedLinksAreRight : Type 0
-CheckedLinksAreRight = (s : Subject) → AreInOrder s → ((c : Clause) → Holds c s) → MeetsRequirements s
+CheckedLinksAreRight = (s : Subject) → ((c : Clause) → Holds c s) → MeetsRequirements s
