@@ -1,7 +1,9 @@
 -- F10. What memory has outside of headers, sections, common blocks, slots and notes: fill. Among the sections of .init and of
 -- .fini it is executed, so there it is whole instructions that do nothing. Elsewhere among code it is such instructions and
 -- breakpoints, and zeros behind them; and zeros where nothing is executed.
-use Rattle.std.specs.Prelude.{◌≡◌, ◌⊎◌, ℕ, ◌+◌, ◌-◌, ◌<◌, ◌≤◌, ◌==◌, Bool, true, false, cond, List, [], ◌∷◌, ◌++◌, None, Some, All, Any, Contains, bit_and, codes, length, replicate}
+use Rattle.std.specs.Prelude.{◌≡◌, ◌⊎◌, ℕ, zero, suc, ◌+◌, ◌-◌, ◌<◌, ◌≤◌, ◌==◌, Bool, true, false, cond, List, [], ◌∷◌, Option, None, Some, All, Any, Contains, bit_and, codes, drop, find, length, nat_eq, nat_le}
+use Rattle.std.specs.List.{prefix_len, slice_get, starts_with}
+use Rattle.std.specs.Option.{option_and_then, option_map_or}
 use Rattle.std.specs.Str.{bytes_eq}
 use Rattle.elf_model.specs.Image.MemoryImage.{loads}
 use Rattle.elf_model.specs.Link.Pieces.{Piece}
@@ -19,45 +21,65 @@ use Rattle.judge_model.specs.Memory.{Holds}
 use Rattle.judge_model.specs.Placed.{things_of}
 use Rattle.judge_model.specs.Runs.{IsBetween}
 
--- Instructions that do nothing (AMD64 Architecture Programmer's Manual 3, "NOP"): 90, 66 90, 66 66 90, and 0f 1f with an operand.
--- Those of 32-bit code that move a register to itself aren't among them: they clear its upper half.
-abbrev pub short_nops : List (List ℕ)
-short_nops =
-    (0x90 ∷ []) ∷ (0x66 ∷ 0x90 ∷ []) ∷ (0x66 ∷ 0x66 ∷ 0x90 ∷ []) ∷ (0x0f ∷ 0x1f ∷ 0 ∷ []) ∷ (0x0f ∷ 0x1f ∷ 0x40 ∷ 0 ∷ [])
-    ∷ (0x0f ∷ 0x1f ∷ 0x44 ∷ 0 ∷ 0 ∷ []) ∷ (0x66 ∷ 0x0f ∷ 0x1f ∷ 0x44 ∷ 0 ∷ 0 ∷ []) ∷ []
-
-abbrev pub long_nops : List (List ℕ)
-long_nops =
-    (0x0f ∷ 0x1f ∷ 0x80 ∷ 0 ∷ 0 ∷ 0 ∷ 0 ∷ []) ∷ (0x0f ∷ 0x1f ∷ 0x84 ∷ 0 ∷ 0 ∷ 0 ∷ 0 ∷ 0 ∷ [])
-    ∷ (0x2e ∷ 0x0f ∷ 0x1f ∷ 0x80 ∷ 0 ∷ 0 ∷ 0 ∷ 0 ∷ []) ∷ (0x2e ∷ 0x0f ∷ 0x1f ∷ 0x84 ∷ 0 ∷ 0 ∷ 0 ∷ 0 ∷ 0 ∷ []) ∷ []
-
--- a long one behind any number of prefixes 66, of which an instruction has less than 15 bytes in all
-pub record IsLongNop (bytes : List ℕ) : Type 0 where
+-- Instructions that do nothing (AMD64 Architecture Programmer's Manual 3, "NOP"): 90, and 0f 1f with an operand, behind
+-- prefixes 66 of which each may have a number, so that none has more than 15 bytes. Those of 32-bit code that move a register
+-- to itself aren't among them: they clear its upper half.
+pub record Nop : Type 0 where
+  pub bytes : List ℕ
   pub prefixes : ℕ
-  pub nop : List ℕ
-  pub long : Contains long_nops nop
-  pub whole : bytes ≡ replicate prefixes 0x66 ++ nop
-  pub short : length bytes ≤ 15
 
-abbrev pub IsNop : List ℕ → Type 0
-IsNop bytes = Contains short_nops bytes ⊎ IsLongNop bytes
+abbrev pub nop : List ℕ → ℕ → Nop
+nop bytes prefixes = record { bytes = bytes; prefixes = prefixes }
 
--- bytes that are whole instructions, one behind the other
-abbrev pub AreInstructions : (List ℕ → Type 0) → List (List ℕ) → List ℕ → Type 0
-AreInstructions Is [] bytes = bytes ≡ []
-AreInstructions Is (i ∷ is) bytes = Is i × ((rest : List ℕ) × (bytes ≡ i ++ rest) × AreInstructions Is is rest)
+abbrev pub nops : List Nop
+nops =
+    nop (0x90 ∷ []) 2
+    ∷ nop (0x0f ∷ 0x1f ∷ 0 ∷ []) 0
+    ∷ nop (0x0f ∷ 0x1f ∷ 0x40 ∷ 0 ∷ []) 0
+    ∷ nop (0x0f ∷ 0x1f ∷ 0x44 ∷ 0 ∷ 0 ∷ []) 1
+    ∷ nop (0x0f ∷ 0x1f ∷ 0x80 ∷ 0 ∷ 0 ∷ 0 ∷ 0 ∷ []) 8
+    ∷ nop (0x0f ∷ 0x1f ∷ 0x84 ∷ 0 ∷ 0 ∷ 0 ∷ 0 ∷ 0 ∷ []) 7
+    ∷ nop (0x2e ∷ 0x0f ∷ 0x1f ∷ 0x80 ∷ 0 ∷ 0 ∷ 0 ∷ 0 ∷ []) 7
+    ∷ nop (0x2e ∷ 0x0f ∷ 0x1f ∷ 0x84 ∷ 0 ∷ 0 ∷ 0 ∷ 0 ∷ 0 ∷ []) 6
+    ∷ []
+
+-- how long the one is that bytes begin with
+abbrev pub is_prefix : ℕ → Bool
+is_prefix b = b == 0x66
+
+abbrev pub begins_with : List ℕ → Nop → Bool
+begins_with bytes n = starts_with nat_eq bytes n.bytes
+
+abbrev pub length_behind : ℕ → Nop → Option ℕ
+length_behind prefixes n = cond (nat_le prefixes n.prefixes) (Some (prefixes + length n.bytes)) None
+
+abbrev pub nop_behind : ℕ → List ℕ → Option ℕ
+nop_behind prefixes bytes = option_and_then (length_behind prefixes) (find (begins_with bytes) nops)
+
+unfoldable pub nop_at : List ℕ → Option ℕ
+nop_at bytes = nop_behind (prefix_len is_prefix bytes) (drop (prefix_len is_prefix bytes) bytes)
+
+-- or a breakpoint, of one byte
+abbrev pub is_breakpoint : Option ℕ → Bool
+is_breakpoint b = option_map_or (λ x. x == 0xcc) b false
+
+abbrev pub filler_at : List ℕ → Option ℕ
+filler_at bytes = cond (is_breakpoint (slice_get bytes 0)) (Some 1) (nop_at bytes)
+
+-- bytes are so many whole instructions that do nothing, one behind the other; or so many fillers and then zeros
+abbrev pub AreNopsBy : ℕ → List ℕ → Type 0
+AreNopsBy zero bytes = bytes ≡ []
+AreNopsBy (suc n) bytes = (k : ℕ) × (nop_at bytes ≡ Some k) × AreNopsBy n (drop k bytes)
 
 abbrev pub AreNops : List ℕ → Type 0
-AreNops bytes = (is : List (List ℕ)) × AreInstructions IsNop is bytes
+AreNops bytes = (n : ℕ) × AreNopsBy n bytes
 
-abbrev pub IsNopOrBreakpoint : List ℕ → Type 0
-IsNopOrBreakpoint bytes = IsNop bytes ⊎ (bytes ≡ 0xcc ∷ [])
+abbrev pub IsCodeFillBy : ℕ → List ℕ → Type 0
+IsCodeFillBy zero bytes = All (λ b. b ≡ 0) bytes
+IsCodeFillBy (suc n) bytes = (k : ℕ) × (filler_at bytes ≡ Some k) × IsCodeFillBy n (drop k bytes)
 
-pub record IsCodeFill (bytes : List ℕ) : Type 0 where
-  pub front : List ℕ
-  pub zeros : ℕ
-  pub whole : bytes ≡ front ++ replicate zeros 0
-  pub instructions : (is : List (List ℕ)) × AreInstructions IsNopOrBreakpoint is front
+abbrev pub IsCodeFill : List ℕ → Type 0
+IsCodeFill bytes = (n : ℕ) × IsCodeFillBy n bytes
 
 -- Gaps.
 

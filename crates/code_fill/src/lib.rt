@@ -1,0 +1,7 @@
+//! What may stand between the pieces of code in an image: instructions that do nothing, breakpoints and zeros.
+#![tactic(auto)]
+
+mod fillers;
+mod nops;
+
+pub use fillers::{are_nops, is_code_fill};
