@@ -16,3 +16,4 @@ pub mod RightForeign
 pub mod Runs
 pub mod Tables
 pub mod ThreadBlocks
+pub mod Words

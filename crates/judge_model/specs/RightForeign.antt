@@ -1,6 +1,7 @@
 -- What a right link of another linker is: thirteen requirements on the words, the files, the image and a certificate. None
 -- of them says how a linker lays anything out.
-use Rattle.std.specs.Prelude.{◌≡◌, ◌%◌, ◌&&◌, ◌||◌, Bool, true, false, not, Some, All, AllPairs, IsSomeAnd}
+use Rattle.std.specs.Prelude.{List, ℕ, ◌≡◌, ◌%◌, ◌&&◌, ◌||◌, Bool, true, false, not, Some, All, AllPairs, IsSomeAnd}
+use Rattle.elf_model.specs.Inputs.Files.{File}
 use Rattle.elf_model.specs.Inputs.Records.{file_header}
 use Rattle.elf_model.specs.Link.Pieces.{Piece}
 use Rattle.elf_model.specs.Link.Resolution.{AreUnique, AreSoundCommons, is_in_thread_section, chosen}
@@ -19,6 +20,9 @@ use Rattle.judge_model.specs.Names.{AreNamesRight}
 use Rattle.judge_model.specs.Notes.{AreNotesRight}
 use Rattle.judge_model.specs.Placed as placed
 use Rattle.judge_model.specs.Runs.{array_names}
+use Rattle.judge_model.specs.Words.{IsAsked}
+use Rattle.judge_model.specs.Plans.{ForeignPlan}
+use Rattle.judge_model.specs.Certificates.{CertificateRecord}
 use Rattle.judge_model.specs.Tables.{AreTablesRight, HasTables}
 use Rattle.judge_model.specs.ThreadBlocks.{IsThreadBlockRight}
 use Rattle.judge_model.specs.declared.judgement.Requirement.{Requirement}
@@ -70,7 +74,13 @@ pub record IsJudged (l : ForeignLink) : Type 0 where
   pub apart : AllPairs AreFieldsApart (relocations_of l)
   pub unedited : All (λ p. is_edited l p ≡ false) (pieces_of l)
 
--- A right link by its certificate; and a right link.
+-- A right link by its certificate; and a right link: one for which there is such a certificate.
 pub record IsShown (l : ForeignLink) : Type 0 where
   pub judged : IsJudged l
   pub holds : (f : Requirement) → Holds f l
+
+pub record IsRightForeign (files : List File) (words : List (List ℕ)) (image : List ℕ) : Type 0 where
+  pub plan : ForeignPlan
+  pub asked : IsAsked words plan
+  pub certificate : CertificateRecord
+  pub shown : IsShown (record { plan = plan; files = files; image = image; certificate = certificate })

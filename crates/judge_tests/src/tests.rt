@@ -1,0 +1,3 @@
+//! The tests, and what they are made of.
+mod fillers;
+mod images;
