@@ -18,6 +18,7 @@ use Rattle.elf_model.specs.Link.ThreadStorage.{block_from, is_some_thread_data, 
 use Rattle.elf_model.specs.declared.records.ProgramHeader.{ProgramHeader}
 use Rattle.elf_model.specs.declared.verdict.Clause.{Clause}
 use Rattle.elf_model.specs.declared.verdict.Clause.TheVariants.{C4, C8}
+use Rattle.judge_model.specs.Links.{placed_of}
 use Rattle.judge_model.specs.ThreadBlocks.{HoldsInitial, IsBlockOf, IsThreadBlockRight, IsThreadHeader, is_some_thread}
 use Rattle.judge_law.proofs.SameParts.{AreInOrder, placed_same}
 use Rattle.judge_law.specs.Conservative.{foreign_of}
@@ -77,27 +78,26 @@ module _ (s : Subject) (order : AreInOrder s) (holds : (c : Clause) → right.Ho
           let g = first_load (program_headers s.image) (holds C4).order.a_load in
           Any-from_contains (HoldsInitial h) (loads s.image) g.0 g.1 (same_offset h g.0 c g.1, λ more. absurd (omega (arith, none, more)))
 
-  right_header : (a : ℕ) → start_of_pieces is_thread_piece qs ≡ Some a → Contains (thread_blocks s.image) (header a) → IsThreadHeader (foreign_of s) (header a)
+  right_header : (a : ℕ) → start_of_pieces is_thread_piece qs ≡ Some a → Contains (thread_blocks s.image) (header a) → IsThreadHeader s.image qs (header a)
   right_header a e c = record {
-    block = inl (subst (λ ps. IsBlockOf is_thread_piece ps (header a)) (sym (placed_same s order holds)) (record {
+    low = let l = (good_block (header a) c).end in omega (arith, l);
+    power = (good_block (header a) c).align;
+    block = inl (record {
       start = e;
       end = inl (let l = start_below qs a (subst (λ o. IsStart is_thread_piece o qs) e (start_is is_thread_piece qs)) in omega (arith, l));
       align = refl;
-    }));
-    power = (good_block (header a) c).align;
-    initial =
-        subst (λ ps. a + (end_of_pieces is_some_thread_data qs - a) ≡ max a (end_of_pieces is_some_thread_data ps)) (sym (placed_same s order holds))
-        (omega arith);
+    });
+    initial = omega arith;
     segment = initial_there (header a) c;
   }
 
   each_by :
       (o : Option ℕ) → start_of_pieces is_thread_piece qs ≡ o
       → thread_blocks s.image ≡ option_map_or (λ b. thread_header s.plan.base qs b ∷ []) (option_map (block_from qs) o) []
-      → All (IsThreadHeader (foreign_of s)) (thread_blocks s.image)
-      × (Any (λ q. is_some_thread q.piece ≡ true) qs → Any (IsThreadHeader (foreign_of s)) (thread_blocks s.image))
+      → All (IsThreadHeader s.image qs) (thread_blocks s.image)
+      × (Any (λ q. is_some_thread q.piece ≡ true) qs → Any (IsThreadHeader s.image qs) (thread_blocks s.image))
   each_by None e is = (
-    subst (All (IsThreadHeader (foreign_of s))) (sym is) (All-nil (IsThreadHeader (foreign_of s))),
+    subst (All (IsThreadHeader s.image qs)) (sym is) (All-nil (IsThreadHeader s.image qs)),
     λ (i, q, low, at, some).
         absurd
         (All-contains (λ (q : Placed). is_thread_piece q.piece ≡ true → ⊥) qs q
@@ -106,17 +106,16 @@ module _ (s : Subject) (order : AreInOrder s) (holds : (c : Clause) → right.Ho
   each_by (Some a) e is =
       let there : Contains (thread_blocks s.image) (header a) = subst (λ hs. Contains hs (header a)) (sym is) (Contains-here [] (header a)) in
       let here = right_header a e there in (
-        subst (All (IsThreadHeader (foreign_of s))) (sym is)
-            (All-cons (IsThreadHeader (foreign_of s)) (header a) [] here (All-nil (IsThreadHeader (foreign_of s)))),
-        λ some. Any-from_contains (IsThreadHeader (foreign_of s)) (thread_blocks s.image) (header a) there here,
+        subst (All (IsThreadHeader s.image qs)) (sym is)
+            (All-cons (IsThreadHeader s.image qs) (header a) [] here (All-nil (IsThreadHeader s.image qs))),
+        λ some. Any-from_contains (IsThreadHeader s.image qs) (thread_blocks s.image) (header a) there here,
       )
 
-  pub thread_block_right : IsThreadBlockRight (foreign_of s)
+  pub thread_block_right : IsThreadBlockRight s.image (placed_of (foreign_of s))
   thread_block_right =
-      let both = each_by (start_of_pieces is_thread_piece qs) refl (holds C8).headers in record {
-        some = λ some. both.1 (subst (Any (λ q. is_some_thread q.piece ≡ true)) (placed_same s order holds) some);
+      let both = each_by (start_of_pieces is_thread_piece qs) refl (holds C8).headers in
+      subst (IsThreadBlockRight s.image) (sym (placed_same s order holds)) (record {
+        some = both.1;
         each = both.0;
-        before =
-            subst (λ ps. All (λ q. is_thread_zero q.piece ≡ true → end_of_pieces is_thread_data ps ≤ q.at) ps) (sym (placed_same s order holds))
-            (holds C8).before;
-      }
+        before = (holds C8).before;
+      })

@@ -1,6 +1,6 @@
 -- F3. Where sections and common blocks are: aligned, apart, in memory with their rights, and in the runs that programs walk
 -- over. Any layout and any addresses serve, but for those that the words give (System V gABI 5, "Program Loading").
-use Rattle.std.specs.Prelude.{◌≡◌, ◌⊎◌, ℕ, ◌+◌, ◌*◌, ◌%◌, ◌==◌, ◌&&◌, Bool, true, false, not, cond, List, ◌++◌, None, All, AllPairs, Any, IfSome, bit_and, filter, find, map, nat_le, ◌-◌}
+use Rattle.std.specs.Prelude.{◌≡◌, ◌⊎◌, ℕ, ◌+◌, ◌*◌, ◌%◌, ◌==◌, ◌&&◌, Bool, true, false, not, cond, List, ◌++◌, None, All, AllPairs, Any, IfSome, bit_and, filter, find, map, nat_le, ◌-◌, ◌^◌, ◌≤◌}
 use Rattle.elf_model.specs.Image.MemoryImage.{Encloses, first_address, loads}
 use Rattle.elf_model.specs.Image.RightLink.{HasCommonLine, facts_of_piece, facts_of_row}
 use Rattle.elf_model.specs.Inputs.Records.{file_header}
@@ -81,6 +81,10 @@ pub record AreRuns (l : ForeignLink) : Type 0 where
   pub near : (p q : Placed) → AreNeighbours (sections_of l) p q → IsNear p q
   pub clear : (p q : Placed) (a : ℕ) → IsBetween (sections_of l) p q a → All (λ t. ¬ Covers t a) (other_things l p.piece)
 
+-- The addresses of a program on x86-64, of sections too that take up no memory.
+abbrev pub IsLow : Placed → Type 0
+IsLow q = q.at + q.piece.size ≤ 2 ^ 47
+
 -- Words that place: the first segment, and output sections, where these have anything.
 abbrev pub StartsRight : ForeignLink → Start → Type 0
 StartsRight l s = IfSome (start_of_pieces (is_of_output s.name) (placed_of l)) (λ a. a ≡ s.address)
@@ -89,6 +93,7 @@ pub record IsPlaced (l : ForeignLink) : Type 0 where
   pub ordered : IsInOrder l.certificate
   pub lines : map facts_of_row l.certificate.places ≡ map facts_of_piece (plain_pieces l)
   pub commons : (name : List ℕ) → IsCommonRight l name
+  pub low : All IsLow (placed_of l)
   pub aligned : All (λ q. q.at % q.piece.align ≡ 0) (placed_of l)
   pub apart : AllPairs AreApart (things_of l)
   pub threads_apart : AllPairs AreApart (thread_ranges (placed_of l))

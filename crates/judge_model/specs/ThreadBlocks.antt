@@ -1,6 +1,6 @@
 -- F9. The block of thread-local storage: PT_TLS says where it is, and from this header come the offsets from the thread
 -- pointer (System V gABI 5, "Program Header", PT_TLS; ELF Handling For Thread-Local Storage, variant II).
-use Rattle.std.specs.Prelude.{◌≡◌, ◌⊎◌, ℕ, ℤ, pos, ◌-ℤ◌, ◌+◌, ◌<◌, ◌≤◌, ◌&&◌, Bool, true, List, Option, Some, All, Any, filter, map, max, nat_lt}
+use Rattle.std.specs.Prelude.{◌≡◌, ◌⊎◌, ℕ, ℤ, pos, ◌-ℤ◌, ◌+◌, ◌^◌, ◌<◌, ◌≤◌, ◌&&◌, Bool, true, List, Option, Some, All, Any, filter, map, max, nat_lt}
 use Rattle.std.specs.Int.{is_power_of_two}
 use Rattle.std.specs.List.{slice_get}
 use Rattle.std.specs.Option.{option_map_or}
@@ -10,7 +10,6 @@ use Rattle.elf_model.specs.Link.Pieces.{Piece, is_thread_piece, is_thread_zero}
 use Rattle.elf_model.specs.Link.Placement.{Placed, is_thread_place, round_up}
 use Rattle.elf_model.specs.Link.ThreadStorage.{alignment_of, is_some_thread_data, is_thread_data}
 use Rattle.elf_model.specs.declared.records.ProgramHeader.{ProgramHeader}
-use Rattle.judge_model.specs.Links.{ForeignLink, placed_of}
 
 -- the thread pointer lies at the block's end, rounded up to a multiple of its alignment; the offset of an address from it
 abbrev pub thread_pointer : Option ProgramHeader → ℕ
@@ -42,15 +41,16 @@ HoldsInitial h g =
 abbrev pub IsSomeBlock : List Placed → ProgramHeader → Type 0
 IsSomeBlock qs h = IsBlockOf is_thread_piece qs h ⊎ IsBlockOf is_some_thread qs h
 
-pub record IsThreadHeader (l : ForeignLink) (h : ProgramHeader) : Type 0 where
-  pub block : IsSomeBlock (placed_of l) h
+pub record IsThreadHeader (image : List ℕ) (qs : List Placed) (h : ProgramHeader) : Type 0 where
+  pub low : h.p_vaddr + h.p_memsz ≤ 2 ^ 47
   pub power : is_power_of_two h.p_align ≡ true
-  pub initial : h.p_vaddr + h.p_filesz ≡ max h.p_vaddr (end_of_pieces is_some_thread_data (placed_of l))
-  pub segment : Any (HoldsInitial h) (loads l.image)
+  pub block : IsSomeBlock qs h
+  pub initial : h.p_vaddr + h.p_filesz ≡ max h.p_vaddr (end_of_pieces is_some_thread_data qs)
+  pub segment : Any (HoldsInitial h) (loads image)
 
 -- F9. There is one such header where a thread-local section has anything, and at most one where all are empty; and no section
 -- without bytes begins before the last one that has some ends.
-pub record IsThreadBlockRight (l : ForeignLink) : Type 0 where
-  pub some : Any (λ q. is_some_thread q.piece ≡ true) (placed_of l) → Any (IsThreadHeader l) (thread_blocks l.image)
-  pub each : All (IsThreadHeader l) (thread_blocks l.image)
-  pub before : All (λ q. is_thread_zero q.piece ≡ true → end_of_pieces is_thread_data (placed_of l) ≤ q.at) (placed_of l)
+pub record IsThreadBlockRight (image : List ℕ) (qs : List Placed) : Type 0 where
+  pub some : Any (λ q. is_some_thread q.piece ≡ true) qs → Any (IsThreadHeader image qs) (thread_blocks image)
+  pub each : All (IsThreadHeader image qs) (thread_blocks image)
+  pub before : All (λ q. is_thread_zero q.piece ≡ true → end_of_pieces is_thread_data qs ≤ q.at) qs
