@@ -8,13 +8,10 @@ ghost use Rattle.judge_model.specs.ThreadBlocks.{EndsAt, HoldsInitial, IsBlockOf
 ghost use Rattle.thread_judge.specs.Parts.{AreLow, IsBehind, IsSamePlace, IsSome, part_test};
 ghost use Rattle.std.specs.Int.{is_power_of_two};
 
-use crate::parts::{Part, alignment_of, end_of, is_of, start_of};
+use crate::parts::{ADDRESS_END, Part, alignment_of, end_of, is_of, start_of};
 use check_link::Placed;
 use elf_model::ProgramHeader;
 use foreign_image::ForeignImage;
-
-/// Where the addresses of a program end.
-const ADDRESS_END: u64 = 1 << 47;
 
 /// Whether a block ends at an address, or at that rounded up to its alignment.
 fn ends_at(h: &ProgramHeader, end: u64) -> bool

@@ -5,3 +5,4 @@ mod blocks;
 mod parts;
 
 pub use blocks::is_thread_block_right;
+pub use parts::are_low;

@@ -1,5 +1,5 @@
 //! Where the thread-local pieces of a link begin and end, and their alignment.
-ghost use Rattle.std.specs.Prelude.{◌≡◌, ◌≤◌, map};
+ghost use Rattle.std.specs.Prelude.{◌≡◌, ◌↔◌, All, IsTrue, map};
 ghost use Rattle.elf_model.specs.Link.LinkerValues.{end_of_pieces, start_of_pieces};
 ghost use Rattle.elf_model.specs.Link.ThreadStorage as storage;
 ghost use Rattle.elf_model.proofs.PieceBounds.{earlier, further};
@@ -18,6 +18,30 @@ pub enum Part {
     Data,
     SomeData,
     Zeros,
+}
+
+/// Where the addresses of a program end.
+pub const ADDRESS_END: u64 = 1 << 47;
+
+/// Whether a piece ends within the addresses of a program.
+fn is_low(placed: &Placed<'_>) -> bool
+    ensures { IsTrue result ↔ IsLow (placed_view placed.now) }
+{
+    let size = placed.piece.header.sh_size;
+    placed.at <= ADDRESS_END && size <= ADDRESS_END - placed.at
+}
+
+fn are_all_low(placed: &[Placed<'_>]) -> bool
+    ensures { IsTrue result ↔ All (λ q. IsLow (placed_view q)) placed.now }
+{
+    placed.iter().all(|q| is_low(q))
+}
+
+/// Whether all pieces end within the addresses of a program.
+pub fn are_low(placed: &[Placed<'_>]) -> bool
+    ensures { IsTrue result ↔ AreLow (placed_views placed.now) }
+{
+    are_all_low(placed)
 }
 
 /// Whether a piece is of a part.

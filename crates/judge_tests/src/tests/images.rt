@@ -5,7 +5,7 @@ use foreign_image::ForeignImage;
 use std::alloc::{AllocError, Global};
 use std::test::Fail;
 
-const HEADER: FileHeader = FileHeader {
+pub const HEADER: FileHeader = FileHeader {
     e_ident: [0x7f, b'E', b'L', b'F', 2, 1, 1, 3, 0, 0, 0, 0, 0, 0, 0, 0],
     e_type: ET_EXEC,
     e_machine: EM_X86_64,
@@ -23,7 +23,7 @@ const HEADER: FileHeader = FileHeader {
 };
 
 /// The headers, as lld maps them.
-const HEADERS: ProgramHeader = ProgramHeader {
+pub const HEADERS: ProgramHeader = ProgramHeader {
     p_type: PT_LOAD,
     p_flags: 4,
     p_offset: 0,
@@ -35,7 +35,7 @@ const HEADERS: ProgramHeader = ProgramHeader {
 };
 
 /// Sixteen bytes of code in the middle of the next page, then zeros.
-const CODE: ProgramHeader = ProgramHeader {
+pub const CODE: ProgramHeader = ProgramHeader {
     p_flags: 7,
     p_offset: 232,
     p_vaddr: 0x20_10e8,
@@ -45,7 +45,7 @@ const CODE: ProgramHeader = ProgramHeader {
     ..HEADERS
 };
 
-const BLOCK: ProgramHeader = ProgramHeader {
+pub const BLOCK: ProgramHeader = ProgramHeader {
     p_type: PT_TLS,
     p_flags: 4,
     p_align: 8,
@@ -126,7 +126,7 @@ const OTHER_SEGMENTS: [[ProgramHeader; 3]; 9] = [
     [HEADERS, CODE, ProgramHeader { p_type: 2, ..BLOCK }],
 ];
 
-fn image_of(
+pub fn image_of(
     alloc: Global,
     header: &FileHeader,
     segments: &[ProgramHeader],
