@@ -26,6 +26,7 @@ use Rattle.judge_model.specs.Kept.{is_excluded, shf_exclude}
 use Rattle.judge_model.specs.Links.{is_in_image, objects_of, placed_of, relocations_of}
 use Rattle.judge_model.specs.Plans.{is_discarded}
 use Rattle.judge_law.proofs.SameParts.{AreInOrder, in_order, placed_same, relocations_same}
+use Rattle.judge_law.proofs.EntryConserved.{entry_right}
 use Rattle.judge_law.proofs.ThreadConserved.{thread_block_right}
 use Rattle.judge_law.specs.Conservative.{CheckedLinksAreRight, foreign_of}
 
@@ -106,4 +107,5 @@ checked_links_right s holds = let order = in_order s holds in record {
   };
   bytes = all_rest s order holds;
   thread_block = thread_block_right s order holds;
+  entry = entry_right s order holds;
 }

@@ -1,4 +1,5 @@
 pub mod Conserved
+pub mod EntryConserved
 pub mod InOrder
 pub mod Same
 pub mod SameParts

@@ -1,6 +1,6 @@
 -- The block of thread-local storage of a link that the profile's check accepts is right for a judge.
 use Rattle.std.proofs.Common.{arith, inl, inr, refl, subst, sym}
-use Rattle.std.specs.Prelude.{◌≡◌, ◌⊎◌, ◌+◌, ◌-◌, ◌<◌, ◌≤◌, ℕ, Bool, true, false, List, [], ◌∷◌, Option, None, Some, All, Any, Contains, cond, length, max}
+use Rattle.std.specs.Prelude.{◌≡◌, ◌⊎◌, ◌+◌, ◌<◌, ◌≤◌, ℕ, Bool, true, false, List, [], ◌∷◌, Option, None, Some, All, Any, Contains, cond, length}
 use Rattle.std.specs.Option.{option_map, option_map_or}
 use Rattle.std.specs.List.{prefix_len}
 use Rattle.std.proofs.lemmas.Bool.{and_parts, cases_lt, eqb-true}
@@ -12,14 +12,14 @@ use Rattle.elf_model.specs.Image.MemoryImage.{Encloses, IsGoodLoad, IsGoodThread
 use Rattle.elf_model.specs.Image.RightLink as right
 use Rattle.elf_model.specs.Image.RightLink.{Subject}
 use Rattle.elf_model.specs.Link.LinkerValues.{end_of_pieces, start_of_pieces}
-use Rattle.elf_model.specs.Link.Pieces.{is_thread_piece, is_thread_zero}
+use Rattle.elf_model.specs.Link.Pieces.{is_thread_piece}
 use Rattle.elf_model.specs.Link.Placement.{Placed}
-use Rattle.elf_model.specs.Link.ThreadStorage.{block_from, is_some_thread_data, is_thread_data, thread_header}
+use Rattle.elf_model.specs.Link.ThreadStorage.{block_from, thread_header}
 use Rattle.elf_model.specs.declared.records.ProgramHeader.{ProgramHeader}
 use Rattle.elf_model.specs.declared.verdict.Clause.{Clause}
 use Rattle.elf_model.specs.declared.verdict.Clause.TheVariants.{C4, C8}
 use Rattle.judge_model.specs.Links.{placed_of}
-use Rattle.judge_model.specs.ThreadBlocks.{HoldsInitial, IsBlockOf, IsThreadBlockRight, IsThreadHeader, is_some_thread}
+use Rattle.judge_model.specs.ThreadBlocks.{HoldsInitial, IsThreadBlockRight, IsThreadHeader, is_some_thread}
 use Rattle.judge_law.proofs.SameParts.{AreInOrder, placed_same}
 use Rattle.judge_law.specs.Conservative.{foreign_of}
 

@@ -9,7 +9,7 @@ use Rattle.judge_model.specs.Certificates.{CertificateRecord, NameRow}
 use Rattle.judge_model.specs.Links.{ForeignLink}
 use Rattle.judge_model.specs.Plans.{ForeignPlan}
 use Rattle.judge_model.specs.RightForeign as foreign
-use Rattle.judge_model.specs.declared.judgement.Requirement.TheVariants.{F2, F7, F9}
+use Rattle.judge_model.specs.declared.judgement.Requirement.TheVariants.{F2, F7, F9, F11}
 
 -- words of the profile ask for nothing but its plan
 abbrev pub plain_plan : Plan → ForeignPlan
@@ -45,11 +45,13 @@ certificate_of s = record {
 abbrev pub foreign_of : Subject → ForeignLink
 foreign_of s = record { plan = plain_plan s.plan; files = s.files; image = s.image; certificate = certificate_of s }
 
--- which sections are in the image, the bytes outside of fields, and the block of thread-local storage
+-- which sections are in the image, the bytes outside of fields, the block of thread-local storage, and the entry
 pub record MeetsRequirements (s : Subject) : Type 0 where
   pub kept : foreign.Holds F2 (foreign_of s)
   pub bytes : foreign.Holds F7 (foreign_of s)
   pub thread_block : foreign.Holds F9 (foreign_of s)
+  pub entry : foreign.Holds F11 (foreign_of s)
 
+-- a link that the check accepts meets these
 abbrev pub CheckedLinksAreRight : Type 0
 CheckedLinksAreRight = (s : Subject) → ((c : Clause) → Holds c s) → MeetsRequirements s

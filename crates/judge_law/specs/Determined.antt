@@ -41,6 +41,7 @@ pub record HoldTheSame (l : ForeignLink) (image : List ℕ) : Type 0 where
   pub sections : All (AreSameOutside l image) (placed_of l)
   pub fields : All (AreSameInField l image) (relocations_of l)
 
+-- right links of one certificate and one thread pointer do
 abbrev pub RightLinksHoldTheSame : Type 0
 RightLinksHoldTheSame =
     (l : ForeignLink) (image : List ℕ)

@@ -10,7 +10,7 @@ pub fn right_links_hold_the_same()
 {}
 
 /// A link that the profile's check accepts meets requirements of a right link of another linker: it has the sections, their
-/// bytes outside of fields, and the block of thread-local storage.
+/// bytes outside of fields, the block of thread-local storage, and the entry.
 pub fn checked_links_are_right()
     ensures { CheckedLinksAreRight }
 {}

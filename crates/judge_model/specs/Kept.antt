@@ -83,12 +83,13 @@ is_root l p =
     || (list_any (defines_root l p) (root_symbols l)
     || is_asked_for l p))))))
 
--- All or none of the sections of a group are in the image.
+-- All or none of the sections of a group are in the image, but for those that no image has.
+abbrev pub AreMembers : ForeignLink → ℕ → Group → Bool → Type 0
+AreMembers l object g there =
+    All (λ p. p.object ≡ object → Contains g.members p.section → is_excluded l p ≡ false → is_in_image l p ≡ there) (kept_sections (objects_of l))
+
 abbrev pub IsWhole : ForeignLink → ℕ → Group → Type 0
-IsWhole l object g =
-    All (λ p. p.object ≡ object → Contains g.members p.section → is_in_image l p ≡ true)
-    (kept_sections (objects_of l))
-    ⊎ All (λ p. p.object ≡ object → Contains g.members p.section → is_in_image l p ≡ false) (kept_sections (objects_of l))
+IsWhole l object g = AreMembers l object g true ⊎ AreMembers l object g false
 
 abbrev pub AreWhole : ForeignLink → Type 0
 AreWhole l = (k : ℕ) (o : LoadedObject) → slice_get (objects_of l) k ≡ Some o → All (IsWhole l k) (groups o.bytes)

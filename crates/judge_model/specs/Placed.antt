@@ -1,6 +1,6 @@
 -- F3. Where sections and common blocks are: aligned, apart, in memory with their rights, and in the runs that programs walk
 -- over. Any layout and any addresses serve, but for those that the words give (System V gABI 5, "Program Loading").
-use Rattle.std.specs.Prelude.{◌≡◌, ◌⊎◌, ℕ, ◌+◌, ◌*◌, ◌%◌, ◌==◌, ◌&&◌, Bool, true, false, not, cond, List, ◌++◌, None, All, AllPairs, Any, IfSome, bit_and, filter, find, map, nat_le, ◌-◌, ◌^◌, ◌≤◌}
+use Rattle.std.specs.Prelude.{◌≡◌, ◌⊎◌, ℕ, ◌+◌, ◌*◌, ◌%◌, ◌==◌, ◌&&◌, Bool, true, false, not, cond, List, ◌++◌, None, All, AllPairs, Any, IfSome, bit_and, filter, find, map, nat_le, ◌-◌, ◌^◌, ◌≤◌, ◌||◌, is_some}
 use Rattle.elf_model.specs.Image.MemoryImage.{Encloses, first_address, loads}
 use Rattle.elf_model.specs.Image.RightLink.{HasCommonLine, facts_of_piece, facts_of_row}
 use Rattle.elf_model.specs.Inputs.Records.{file_header}
@@ -52,8 +52,8 @@ IsCommonRight l name =
     HasCommonLine l.certificate.commons (objects_of l) name
     ⊎ ((l.plan.collects ≡ true) × (find (is_common_row_of name) l.certificate.commons ≡ None))
 
--- Rights: R always, W and X as the section's flags say; a segment has at least these. None has both W and X unless the words
--- or a section's own flags ask for it.
+-- Rights: R always, W and X as the section's flags say; a segment has at least these. None has both W and X unless the words,
+-- a script or a section's own flags ask for it.
 abbrev pub needed_rights : SectionHeader → ℕ
 needed_rights h = PF_R + (cond (is_writable h) PF_W 0 + cond (is_executable h) PF_X 0)
 
@@ -68,7 +68,8 @@ abbrev pub is_both : ProgramHeader → Bool
 is_both h = bit_and h.p_flags (PF_W + PF_X) == PF_W + PF_X
 
 abbrev pub MayBeBoth : ForeignLink → Type 0
-MayBeBoth l = (l.plan.writes_code ≡ true) ⊎ Any (λ p. writes_code p.header ≡ true) (pieces_of l)
+MayBeBoth l =
+    ((l.plan.writes_code || is_some l.plan.script) ≡ true) ⊎ Any (λ p. writes_code p.header ≡ true) (pieces_of l)
 
 -- Runs: neighbours are near each other, and between them is nothing but sections of their name.
 abbrev pub is_other : Piece → Placed → Bool

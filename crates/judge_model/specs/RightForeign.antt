@@ -1,6 +1,6 @@
 -- What a right link of another linker is: thirteen requirements on the words, the files, the image and a certificate. None
 -- of them says how a linker lays anything out.
-use Rattle.std.specs.Prelude.{List, ℕ, ◌≡◌, ◌%◌, ◌&&◌, ◌||◌, Bool, true, false, not, Some, All, AllPairs, IsSomeAnd}
+use Rattle.std.specs.Prelude.{List, ℕ, ◌≡◌, ◌%◌, ◌&&◌, ◌||◌, Bool, true, false, not, Some, All, AllPairs, IsSomeAnd, codes, nat_eq}
 use Rattle.elf_model.specs.Inputs.Files.{File}
 use Rattle.elf_model.specs.Inputs.Records.{file_header}
 use Rattle.elf_model.specs.Link.Pieces.{Piece}
@@ -13,7 +13,9 @@ use Rattle.judge_model.specs.Kept.{IsKept}
 use Rattle.judge_model.specs.Links.{ForeignLink, is_frames, is_mergeable, is_placed, objects_of, pieces_of, placed_of, relocations_of}
 use Rattle.judge_model.specs.Loaded.{AreReadable}
 use Rattle.judge_model.specs.Loaded as loaded
-use Rattle.std.specs.List.{list_any}
+use Rattle.std.specs.List.{list_any, starts_with}
+use Rattle.elf_model.specs.Inputs.ObjectFile.{name_of_section, sections}
+use Rattle.elf_model.specs.Link.Loading.{LoadedObject}
 use Rattle.elf_model.specs.Link.Pieces.{is_gathered_by}
 use Rattle.judge_model.specs.Means.{value_of}
 use Rattle.judge_model.specs.Names.{AreNamesRight}
@@ -52,7 +54,7 @@ Holds F12 l = AreHeadersRight l
 Holds F13 l = HasTables l.image → AreTablesRight l
 
 -- What isn't judged: links whose inputs leave open what is right. Files, archives and objects that can't be read, as those of
--- other machines or with IFUNC symbols; two strong definitions of a name, unless the words ask for the first; a common symbol
+-- other machines or with IFUNC symbols; objects for link-time optimization; two strong definitions of a name, unless the words ask for the first; a common symbol
 -- that isn't sound; fields that leave their section or overlap; arrays of functions that gaps would break; and, until they
 -- are judged too, strings and constants that may be merged, and call frames, without a line that says where they are
 -- unedited.
@@ -65,7 +67,12 @@ is_of_array p = list_any (is_gathered_by p.name) array_names
 abbrev pub IsWholeArray : Piece → Type 0
 IsWholeArray p = is_of_array p ≡ true → (p.align ≡ 8) × (p.size % 8 ≡ 0)
 
+-- an object is one of a compiler's own code, of which the linker has the compiler make the machine's
+abbrev pub is_lto : LoadedObject → Bool
+is_lto o = list_any (λ h. starts_with nat_eq (name_of_section o.bytes h) (codes ".gnu.lto_")) (sections o.bytes)
+
 pub record IsJudged (l : ForeignLink) : Type 0 where
+  pub compiled : All (λ o. is_lto o ≡ false) (objects_of l)
   pub readable : AreReadable l.files l.plan.plan
   pub arrays : All IsWholeArray (pieces_of l)
   pub unique : l.plan.takes_first ≡ false → AreUnique (objects_of l)
