@@ -1,14 +1,13 @@
 -- The block of thread-local storage of a link that the profile's check accepts is right for a judge.
 use Rattle.std.proofs.Common.{arith, inl, inr, refl, subst, sym}
-use Rattle.std.specs.Prelude.{◌≡◌, ◌⊎◌, ◌+◌, ◌<◌, ◌≤◌, ℕ, Bool, true, false, List, [], ◌∷◌, Option, None, Some, All, Any, Contains, cond, length}
+use Rattle.std.specs.Prelude.{◌≡◌, ◌⊎◌, ◌+◌, ◌<◌, ◌≤◌, ℕ, true, List, [], ◌∷◌, Option, None, Some, All, Any, Contains, length}
 use Rattle.std.specs.Option.{option_map, option_map_or}
-use Rattle.std.specs.List.{prefix_len}
 use Rattle.std.proofs.lemmas.Bool.{and_parts, cases_lt, eqb-true}
 use Rattle.std.proofs.lemmas.List.Elements.{All-cons, All-contains, All-nil}
-use Rattle.elf_model.proofs.Finding.{Any-from_contains}
+use Rattle.elf_model.proofs.Finding.{Any-from_contains, Any-here, Any-there}
 use Rattle.elf_model.proofs.Listed.{Contains-from_filter, Contains-here}
 use Rattle.elf_model.proofs.PieceBounds.{EndsBy, IsStart, all_end, start_is}
-use Rattle.elf_model.specs.Image.MemoryImage.{Encloses, IsGoodLoad, IsGoodThreadBlock, first_address, is_load, is_thread_block, loads, loads_in, program_headers, thread_blocks}
+use Rattle.elf_model.specs.Image.MemoryImage.{Encloses, IsGoodLoad, IsGoodThreadBlock, first_address, is_thread_block, loads, program_headers, thread_blocks}
 use Rattle.elf_model.specs.Image.RightLink as right
 use Rattle.elf_model.specs.Image.RightLink.{Subject}
 use Rattle.elf_model.specs.Link.LinkerValues.{end_of_pieces, start_of_pieces}
@@ -19,7 +18,7 @@ use Rattle.elf_model.specs.declared.records.ProgramHeader.{ProgramHeader}
 use Rattle.elf_model.specs.declared.verdict.Clause.{Clause}
 use Rattle.elf_model.specs.declared.verdict.Clause.TheVariants.{C4, C8}
 use Rattle.judge_model.specs.Links.{placed_of}
-use Rattle.judge_model.specs.ThreadBlocks.{HoldsInitial, IsThreadBlockRight, IsThreadHeader, is_some_thread}
+use Rattle.judge_model.specs.ThreadBlocks.{HasInitial, HoldsInitial, IsThreadBlockRight, IsThreadHeader, is_some_thread}
 use Rattle.judge_law.proofs.SameParts.{AreInOrder, placed_same}
 use Rattle.judge_law.specs.Conservative.{foreign_of}
 
@@ -35,14 +34,24 @@ start_below qs a start =
     let is = start.1.3 in
     omega (arith, end, is)
 
--- an image has a segment
-first_load : (hs : List ProgramHeader) → 0 < prefix_len is_load hs → (h : ProgramHeader) × Contains (loads_in hs) h
-first_load [] some = absurd (omega (arith, some))
-first_load (h ∷ hs) some = by (is_load h) some
+-- an address lies in a segment, or in none
+inside_one : (a : ℕ) (g : ProgramHeader) → Encloses g a 0 ⊎ (¬ Encloses g a 0)
+inside_one a g = by (cases_lt a g.p_vaddr) (cases_lt (g.p_vaddr + g.p_memsz) a)
   where
-    by : (b : Bool) → 0 < cond b (1 + prefix_len is_load hs) 0 → (g : ProgramHeader) × Contains (cond b (h ∷ loads_in hs) (loads_in hs)) g
-    by true some = (h, Contains-here (loads_in hs) h)
-    by false some = absurd (omega (arith, some))
+    by : (a < g.p_vaddr) ⊎ (g.p_vaddr ≤ a) → (g.p_vaddr + g.p_memsz < a) ⊎ (a ≤ g.p_vaddr + g.p_memsz) → Encloses g a 0 ⊎ (¬ Encloses g a 0)
+    by (inl low) end = inr (λ e. let l = e.0 in omega (arith, low, l))
+    by (inr low) (inl high) = inr (λ e. let l = e.1 in omega (arith, high, l))
+    by (inr low) (inr high) = inl (low, omega (arith, high))
+
+inside_or_not : (a : ℕ) (hs : List ProgramHeader) → Any (λ g. Encloses g a 0) hs ⊎ All (λ g. ¬ Encloses g a 0) hs
+inside_or_not a [] = inr (All-nil (λ (g : ProgramHeader). ¬ Encloses g a 0))
+inside_or_not a (h ∷ hs) = by (inside_one a h) (inside_or_not a hs)
+  where
+    by : Encloses h a 0 ⊎ (¬ Encloses h a 0) → Any (λ g. Encloses g a 0) hs ⊎ All (λ g. ¬ Encloses g a 0) hs
+        → Any (λ g. Encloses g a 0) (h ∷ hs) ⊎ All (λ g. ¬ Encloses g a 0) (h ∷ hs)
+    by (inl here) rest = inl (Any-here (λ (g : ProgramHeader). Encloses g a 0) h hs here)
+    by (inr never) (inl there) = inl (Any-there (λ (g : ProgramHeader). Encloses g a 0) h hs there)
+    by (inr never) (inr all) = inr (All-cons (λ (g : ProgramHeader). ¬ Encloses g a 0) h hs never all)
 
 module _ (s : Subject) (order : AreInOrder s) (holds : (c : Clause) → right.Holds c s) where
   abbrev qs : List Placed
@@ -67,16 +76,22 @@ module _ (s : Subject) (order : AreInOrder s) (holds : (c : Clause) → right.Ho
       let b = (good_load g d).offset in
       omega (arith, a, b)
 
-  initial_there : (h : ProgramHeader) → Contains (thread_blocks s.image) h → Any (HoldsInitial h) (loads s.image)
+  initial_there : (h : ProgramHeader) → Contains (thread_blocks s.image) h → HasInitial (loads s.image) h
   initial_there h c = by (cases_lt 0 h.p_filesz)
     where
-      by : (0 < h.p_filesz) ⊎ (h.p_filesz ≤ 0) → Any (HoldsInitial h) (loads s.image)
+      by : (0 < h.p_filesz) ⊎ (h.p_filesz ≤ 0) → HasInitial (loads s.image) h
       by (inl some) =
-          any_more (λ g. Encloses g h.p_vaddr h.p_filesz) (HoldsInitial h) (loads s.image) (λ g d inside. (same_offset h g c d, λ more. inside))
-          (All-contains (right.HoldsInitial (loads s.image)) (thread_blocks s.image) h (holds C8).held c some)
-      by (inr none) =
-          let g = first_load (program_headers s.image) (holds C4).order.a_load in
-          Any-from_contains (HoldsInitial h) (loads s.image) g.0 g.1 (same_offset h g.0 c g.1, λ more. absurd (omega (arith, none, more)))
+          inl
+          (any_more (λ g. Encloses g h.p_vaddr h.p_filesz) (HoldsInitial h) (loads s.image) (λ g d inside. (same_offset h g c d, inside))
+          (All-contains (right.HoldsInitial (loads s.image)) (thread_blocks s.image) h (holds C8).held c some))
+      by (inr none) = empty (inside_or_not h.p_vaddr (loads s.image))
+        where
+          empty : Any (λ g. Encloses g h.p_vaddr 0) (loads s.image) ⊎ All (λ g. ¬ Encloses g h.p_vaddr 0) (loads s.image) → HasInitial (loads s.image) h
+          empty (inl there) =
+              inl
+              (any_more (λ g. Encloses g h.p_vaddr 0) (HoldsInitial h) (loads s.image)
+              (λ g d inside. (same_offset h g c d, (inside.0, (let e = inside.1 in omega (arith, e, none))))) there)
+          empty (inr outside) = inr (record { none = omega (arith, none); outside = outside })
 
   right_header : (a : ℕ) → start_of_pieces is_thread_piece qs ≡ Some a → Contains (thread_blocks s.image) (header a) → IsThreadHeader s.image qs (header a)
   right_header a e c = record {

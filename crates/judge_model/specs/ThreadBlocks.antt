@@ -32,10 +32,17 @@ pub record IsBlockOf (test : Piece → Bool) (qs : List Placed) (h : ProgramHead
   pub end : EndsAt h (end_of_pieces test qs)
   pub align : h.p_align ≡ alignment_of test (map (λ q. q.piece) qs)
 
--- its initial bytes: up to the end of the last section that has some, where a segment has them, at the same place of the file
+-- its initial bytes are where a segment has them, at the same place of the file
 abbrev pub HoldsInitial : ProgramHeader → ProgramHeader → Type 0
-HoldsInitial h g =
-    (h.p_offset + g.p_vaddr ≡ g.p_offset + h.p_vaddr) × (0 < h.p_filesz → Encloses g h.p_vaddr h.p_filesz)
+HoldsInitial h g = (h.p_offset + g.p_vaddr ≡ g.p_offset + h.p_vaddr) × Encloses g h.p_vaddr h.p_filesz
+
+-- it has none, and is in no segment, so that its place in the file says nothing
+pub record IsNowhere (hs : List ProgramHeader) (h : ProgramHeader) : Type 0 where
+  pub none : h.p_filesz ≡ 0
+  pub outside : All (λ g. ¬ Encloses g h.p_vaddr 0) hs
+
+abbrev pub HasInitial : List ProgramHeader → ProgramHeader → Type 0
+HasInitial hs h = Any (HoldsInitial h) hs ⊎ IsNowhere hs h
 
 -- the block is that of all thread-local sections, or of those that aren't empty
 abbrev pub IsSomeBlock : List Placed → ProgramHeader → Type 0
@@ -46,7 +53,7 @@ pub record IsThreadHeader (image : List ℕ) (qs : List Placed) (h : ProgramHead
   pub power : is_power_of_two h.p_align ≡ true
   pub block : IsSomeBlock qs h
   pub initial : h.p_vaddr + h.p_filesz ≡ max h.p_vaddr (end_of_pieces is_some_thread_data qs)
-  pub segment : Any (HoldsInitial h) (loads image)
+  pub segment : HasInitial (loads image) h
 
 -- F9. There is one such header where a thread-local section has anything, and at most one where all are empty; and no section
 -- without bytes begins before the last one that has some ends.
