@@ -273,9 +273,12 @@ fn images_for_tools_are_whole_or_not_there(rt: HostRuntime) -> Result<(), Fail> 
 
 /// Whether bytes have a text in them.
 fn has(bytes: &[u8], text: &str) -> bool {
-    bytes
-        .windows(text.len())
-        .any(|part| part == text.as_bytes())
+    for at in 0..bytes.len() {
+        if matches!(bytes.get(at..), Some(rest) if rest.starts_with(text.as_bytes())) {
+            return true;
+        }
+    }
+    false
 }
 
 /// Lines, and whether the image then has debug data and LOCAL names.
@@ -365,11 +368,18 @@ fn changed(alloc: Global, image: &[u8], change: &Change) -> Result<(Vec<u8>, usi
     Ok((bytes, at))
 }
 
-/// What the check of an image prints that was linked from two objects and then changed, and the offset of the change.
-fn checked(alloc: Global, change: &Change, line: &str) -> Result<(Outcome, usize), Fail> {
+/// Two objects with debug data.
+fn two_objects(alloc: Global) -> Result<(Vec<u8>, Vec<u8>), Fail> {
     let first = [Relocation(2, 0, R_64, 2, 0)];
     let one = relocatable(alloc, &[TEXT, INFO], &[LOCAL, START], &first)?;
     let two = relocatable(alloc, &[TEXT, INFO, LINES], &[F], &[])?;
+    Ok((one, two))
+}
+
+/// The image that is linked from two objects and then changed, the map that `ld-debug` writes of them, and the offset of
+/// the change.
+fn linked(alloc: Global, change: &Change) -> Result<(Vec<u8>, Vec<u8>, usize), Fail> {
+    let (one, two) = two_objects(alloc)?;
     let inputs = [
         StoredFile::sound("a.o", &one),
         StoredFile::sound("b.o", &two),
@@ -388,11 +398,18 @@ fn checked(alloc: Global, change: &Change, line: &str) -> Result<(Outcome, usize
         return Err(Fail::from("two files"));
     };
     let (bytes, at) = changed(alloc, &image.bytes, change)?;
+    Ok((bytes, Vec::from_slice(alloc, &map.bytes)?, at))
+}
+
+/// What the check of an image prints that was linked from two objects and then changed, and the offset of the change.
+fn checked(alloc: Global, change: &Change, line: &str) -> Result<(Outcome, usize), Fail> {
+    let (image, map, at) = linked(alloc, change)?;
+    let (one, two) = two_objects(alloc)?;
     let stored = [
         StoredFile::sound("a.o", &one),
         StoredFile::sound("b.o", &two),
-        StoredFile::sound("a.out", &bytes),
-        StoredFile::sound("a.map", &map.bytes),
+        StoredFile::sound("a.out", &image),
+        StoredFile::sound("a.map", &map),
     ];
     let check = format!(in alloc; "{line} -Map=a.map --check")?;
     let run = run_program_line(alloc, Program::Debug, &stored, SOUND, &check)?;

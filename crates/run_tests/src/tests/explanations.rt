@@ -17,14 +17,14 @@ const PLAIN: &[File] = &[File::Object("a.o", &[TEXT], &[START], &[])];
 
 /// What is changed between a link and its check, and what is told: a right link, a byte of the text, and a line of the map.
 static ROWS: [(Change, &str); 3] = [
-    (Change::Nothing, "yes\nstatus 0"),
+    (Change::Nothing, "yes\n\nerr: \nstatus 0"),
     (
         Change::Image(0x1001, 0x3d),
-        "no C10\na.o: section 1 .text: byte 0x1 at 0x401001 is 0x3d, and should be 0x3c\nstatus 1",
+        "no C10\na.o: section 1 .text: byte 0x1 at 0x401001 is 0x3d, and should be 0x3c\n\nerr: \nstatus 1",
     ),
     (
         Change::Text("ldmap 2", "ldmap 3"),
-        "no C1\na.map: line 1 is none of a map\nstatus 1",
+        "no C1\na.map: line 1 is none of a map\n\nerr: \nstatus 1",
     ),
 ];
 
@@ -37,24 +37,14 @@ fn told(alloc: Global, change: &Change) -> Result<String, Fail> {
     }
     stored.push(StoredFile::sound("a.out", &output.image))?;
     stored.push(StoredFile::sound("a.map", &output.map))?;
-    let disk = Disk::new(alloc, &stored, SOUND);
-    let machine = Machine {
-        disk: &disk,
-        words: &[],
-        random: None,
-    };
-    let mut out = Vec::new(alloc);
-    let words = words_of(alloc, "-s a.o -Map=a.map --check")?;
-    let status = run(&machine, &words, &mut out);
-    let (_made, _passed, journal) = disk.into_parts();
-    let out = String::from_utf8(out)?;
-    Ok(format!(in alloc; "{journal}{out}status {status}")?)
+    let line = "-s a.o -Map=a.map --check";
+    Ok(run_program_line(alloc, Program::Why, &stored, SOUND, line)?.told)
 }
 
 #[test]
 fn the_check_of_ld_why_prints_the_clause_and_its_places(rt: HostRuntime) -> Result<(), Fail> {
     for (change, answer) in &ROWS {
-        let wanted = format!(in rt.alloc(); "read a.o\nread a.out\nread a.map\n{answer}")?;
+        let wanted = format!(in rt.alloc(); "read a.o\nread a.out\nread a.map\nout: {answer}")?;
         assert_eq!(rt; told(rt.alloc(), change)?, wanted);
     }
     Ok(())
@@ -270,7 +260,8 @@ fn at_most_twenty_places_are_printed(rt: HostRuntime) -> Result<(), Fail> {
                 0,
             ))?;
         }
-        let mut symbols = Vec::from_slice(alloc, &[START])?;
+        let mut symbols = Vec::new(alloc);
+        symbols.push(START)?;
         for name in &names {
             symbols.push(NamedSymbol { name, ..NO_F })?;
         }

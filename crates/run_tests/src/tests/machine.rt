@@ -180,12 +180,19 @@ impl<'a> Disk<'a> {
         Ok(journal.push_str(&line)?)
     }
 
-    /// Notes a deed that no run may do.
+    /// Notes a deed that no run may do, and says why it fails.
+    fn refusal(&self, deed: &str, path: &str) -> io::Error {
+        match self.note(deed, path) {
+            Ok(()) => io::Error::from(ErrorKind::Unsupported),
+            Err(why) => why,
+        }
+    }
+
+    /// Notes a deed that no run may do, and fails.
     fn refuse<T>(&self, deed: &str, path: &str) -> io::Result<T>
         ensures { IsErr result }
     {
-        self.note(deed, path)?;
-        Err(io::Error::from(ErrorKind::Unsupported))
+        Err(self.refusal(deed, path))
     }
 
     /// The file at a path, None where there is none, unless it is locked.
@@ -499,7 +506,7 @@ impl<'a> Files for Machine<'a> {
         let handle = if how.asks_create_new() {
             Handle::Made(self.disk.make_new(path)?, 0, Kind::Regular)
         } else if how.asks_create() || how.asks_truncate() {
-            return self.disk.refuse("cut", path);
+            return Err(self.disk.refusal("cut", path));
         } else if how.asks_append() {
             self.disk.open_there("append", path)?
         } else if how.asks_write() {
@@ -514,7 +521,7 @@ impl<'a> Files for Machine<'a> {
     }
 
     fn open_dir(&self, path: &str) -> io::Result<OpenedFile<'a>> {
-        self.disk.refuse("list", path)
+        Err(self.disk.refusal("list", path))
     }
 
     fn metadata(&self, path: &str) -> io::Result<Metadata> {
