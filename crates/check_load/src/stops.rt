@@ -1,4 +1,4 @@
-//! Why nothing is loaded, inside this crate.
+//! Why nothing is loaded.
 ghost use Rattle.std.specs.Prelude.{◌≡◌};
 ghost use Rattle.check_load.specs.Stops.{stop_of};
 ghost use Rattle.check_load.specs.declared.stops.Stop.TheVariants as stop;
