@@ -18,14 +18,14 @@ part_test part.Thread = is_thread_piece
 part_test part.ThreadData = is_thread_data
 part_test part.SomeThreadData = is_some_thread_data
 
--- a piece ends at or below 2 ^ 46
+-- a piece ends at or below 2 ^ 47
 abbrev pub IsInLimit : Placed → Type 0
-IsInLimit q = q.at + q.piece.size ≤ 2 ^ 46
+IsInLimit q = q.at + q.piece.size ≤ 2 ^ 47
 
 abbrev pub AreInLimit : List Placed → Type 0
 AreInLimit qs = All IsInLimit qs
 
--- and so does the GOT, where there is one
+-- and the GOT, where there is one, at or below 2 ^ 46
 abbrev pub IsGotInLimit : Option GotLine → Type 0
 IsGotInLimit got = IfSome got (λ g. g.address + g.size ≤ 2 ^ 46)
 

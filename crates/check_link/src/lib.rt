@@ -28,7 +28,7 @@ mod symbols;
 mod things;
 mod thread_storage;
 
-pub use bounds::{Part, end_of};
+pub use bounds::{Bounds, Part, Span, bounds_of, end_of, spans_of, start_of};
 pub use common_lines::CommonLines;
 pub use definition_list::Definitions;
 pub use definitions::{has_value, is_in_thread_section};

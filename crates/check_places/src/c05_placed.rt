@@ -15,7 +15,7 @@ use elf_model::Thing;
 use loader_model::by_address;
 use std::alloc::{AllocError, Global};
 
-mod apart;
+pub mod apart;
 pub mod array_order;
 pub mod neighbours;
 

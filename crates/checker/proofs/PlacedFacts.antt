@@ -56,11 +56,11 @@ ends base q loaded thread = by (pieces.is_thread_piece q.piece) refl (pieces.is_
   where
     by :
         (b : Bool) → pieces.is_thread_piece q.piece ≡ b → (c : Bool) → q.at + cond (pieces.is_thread_piece q.piece && c) 0 q.piece.size ≤ 2 ^ 46 →
-        q.at + q.piece.size ≤ 2 ^ 46
-    by true e c low = (thread e).1
-    by false e c low = subst (λ (t : Bool). q.at + cond (t && c) 0 q.piece.size ≤ 2 ^ 46) e low
+        q.at + q.piece.size ≤ 2 ^ 47
+    by true e c low = let end = (thread e).1 in omega (arith, end)
+    by false e c low = let end = subst (λ (t : Bool). q.at + cond (t && c) 0 q.piece.size ≤ 2 ^ 46) e low in omega (arith, end)
 
--- where the things of a link, and the thread-local pieces, are within the addresses, each piece ends at or below 2 ^ 46
+-- where the things of a link, and the thread-local pieces, are within the addresses, each piece ends at or below 2 ^ 47
 pub in_limit : (s : Subject) (placed : List Placed) → placed_views placed ≡ placed_of s → Holds C5 s → AreInLimit (placed_views placed)
 in_limit s placed same lies =
     let base = s.plan.base in

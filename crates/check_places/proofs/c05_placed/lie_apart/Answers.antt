@@ -1,15 +1,8 @@
-use Rattle.std.proofs.Common.{arith}
-use Rattle.std.proofs.lemmas.List.Sorted.{All-permutation, IsPermutation-sym}
+use Rattle.std.proofs.lemmas.List.Sorted.{IsPermutation-sym}
 use Rattle.elf_model.specs.Link.Placement.{AreApart}
 use Rattle.elf_model.proofs.PairsPermuted.{AllPairs-permutation}
-use Rattle.check_places.specs.Sweeps.{EndFits}
 use Rattle.check_places.proofs.Sweep.{AreApart-symmetric}
 use Rattle.check_places.proofs.c05_placed.lie_apart.Goals as goal
-
-pub are_apart-requires-clause-fits : goal.are_apart-requires-clause-fits
-are_apart-requires-clause-fits c =
-    All-permutation EndFits c.args.things.now c.args.sorted.now c.requires.same
-    (λ k d low. let within = c.are_within.ensures.0 c.if-not-are_within.false k d low in omega arith)
 
 pub returns : goal.returns
 returns c =
