@@ -7,7 +7,7 @@
 # PREFIX is an absolute path, /usr/local where none is given; before it goes $DESTDIR. There will be
 #
 #     bin/cakthuy-ld, bin/cakthuy-ld-why      the programs (ld-why, and cakthuy-ld-debug, where they are built)
-#     bin/cakthuy-cc, bin/cakthuy-cc-static   compilers that link by ours, and cakthuy-c++ and cakthuy-c++-static
+#     bin/cakthuy-cc, bin/cakthuy-cc-static   compilers that link by ours; for C++ cakthuy-c++ and cakthuy-c++-static, one script
 #     libexec/cakthuy                         ld, cc and so on: `gcc -B PREFIX/libexec/cakthuy` links by ours (docs/DRIVER.md)
 #     libexec/cakthuy/judge                   link.py and judge.py (docs/JUDGING.md)
 #     share/man                               the manual
@@ -90,6 +90,8 @@ for name in cc c++ cc-static c++-static; do
     put 755 "$root/tools/driver/$name" "libexec/cakthuy/$name"
     link "../libexec/cakthuy/$name" "bin/cakthuy-$name"
 done
+# CMake takes bin/cakthuy-c++ for C++ where bin/cakthuy-cc-static is the compiler of C, since it goes by the front of the name.
+link ../libexec/cakthuy/c++-static bin/cakthuy-c++
 for name in lld bfd gold mold; do
     link ld "libexec/cakthuy/ld.$name"
 done

@@ -483,6 +483,7 @@ share/man/man1/cakthuy-ld-debug.1
 share/man/man1/cakthuy-ld-why.1
 share/man/man1/cakthuy-ld.1
 share/man/man5/cakthuy-map.5' "$(cd dest/p && find . ! -type d ! -path '*/judge/*' | sed 's,^\./,,' | LC_ALL=C sort)"
+compare '../libexec/cakthuy/c++-static' "$(readlink dest/p/bin/cakthuy-c++)"
 compare '[-s][a.o], 0' "$(told -u LD_PROGRAM dest/p/libexec/cakthuy/ld -s a.o)"
 compare '[-s][a.o], 0' "$(told -u LD_PROGRAM LD_UNPROVED=1 dest/p/libexec/cakthuy/ld -s a.o)"
 compare "It runs the proved linker, $(readlink -f dest/p/bin/cakthuy-ld)." \
