@@ -1,0 +1,3 @@
+pub mod BesideFields
+pub mod NumberBytes
+pub mod Padded

@@ -1,0 +1,11 @@
+//! What memory of an image holds that another linker made: numbers, as fields and slots have them, and the bytes of a
+//! section between its fields. What a field is to hold, and where slots may be, others say.
+#![tactic(auto)]
+
+mod numbers;
+mod rests;
+mod slots;
+
+pub use numbers::{holds_number, number_at, shown};
+pub use rests::{FieldSpan, holds_rest};
+pub use slots::{is_slot, slot_address};
