@@ -1,0 +1,3 @@
+pub mod KindRows
+pub mod LetterLaws
+pub mod OneField
