@@ -29,6 +29,8 @@ that one, in place of the proved one.
     debug-gaps    2,000 sections of debug data of one byte, each aligned to 2^21
     undefined     20,000 GLOBAL symbols without a definition, whose names are ends of one text, and a relocation to each
     one-undefined 100,000 relocations that name one GLOBAL symbol without a definition, whose name has 1 MB
+    lines         20 undefined names in code of which the last unit of a line table tells the line, in the last of 400,000 files;
+                  before it are 20,000 units and one of 200,000 sequences, which tell of other code
 
 Two more grow faster than their bytes, for reasons that docs/BENCHMARKS.md gives. They run only where they are named,
 are small, and have no limit:
@@ -36,7 +38,7 @@ are small, and have no limit:
     weak-ends     5,000 weak symbols without a definition whose names are ends of one text of 500 kB
     products      400 directories, none of them there, and as many -l of names that only a last one has
 
-All but the maps and `segments` are linked with a map, and the link is checked; `undefined` and `one-undefined` are refused.
+All but the maps and `segments` are linked with a map, and the link is checked; `undefined`, `one-undefined` and `lines` are refused.
 The maps and `segments` are only checked: their images and maps are made here, and have no tables for `ld-debug`. Time is that of the processor, in the program and in the system for it, memory the greatest
 resident set, medians of the runs, in seconds and MiB; `by bytes` is memory by the bytes of all files that are read or
 written, and of the words. The last two columns are the doubled input's time and memory by those of the single one:
@@ -252,6 +254,45 @@ def one_undefined(folder, count):
     return refused(folder, [start(folder), path], None)
 
 
+def uleb(number):
+    """An unsigned LEB128 number."""
+    data = bytearray()
+    while number >= 0x80:
+        data.append(number & 0x7F | 0x80)
+        number >>= 7
+    return bytes(data) + bytes([number])
+
+
+def line_unit(files, program):
+    """A unit of a line table of version 5: no directories, so many files, and a program."""
+    tables = bytes([0, 0, 1, 1, 8]) + uleb(files) + b"f\0" * files
+    header = bytes([1, 1, 1, 0xFB, 14, 10, 0, 1, 1, 1, 1, 0, 0, 0, 1]) + tables
+    unit = struct.pack("<HBBI", 5, 8, 0, len(header)) + header + program
+    return struct.pack("<I", len(unit)) + unit
+
+
+def line_tables(folder, count):
+    made = elf.Object()
+    code, other = (made.section(name, elf.PROGBITS, CODE, bytes(256)) for name in (".text", ".text.other"))
+    entry, elsewhere = made.symbol("_start", code), made.symbol("other", other)
+    names = [made.symbol(f"f{k}", 0) for k in range(20)]
+    made.relocations(code, [(8 * k, elf.PC32, name, 0) for k, name in enumerate(names)])
+    address = bytes([0, 9, 2]) + bytes(8)
+    sequence = address + bytes([1, 2, 64, 0, 1, 1])
+    last = address + b"\x04" + uleb(20 * count - 1) + bytes([1, 2]) + uleb(256) + bytes([0, 1, 1])
+    small, large, told = line_unit(2, sequence), line_unit(2, sequence * (10 * count)), line_unit(20 * count, last)
+    behind = len(small) - len(sequence) + len(address) - 8
+    places = [len(small) * k + behind for k in range(count)]
+    places += [len(small) * count + behind + len(sequence) * k for k in range(10 * count)]
+    fields = [(at, elf.ABS64, elsewhere, 0) for at in places]
+    fields.append((len(small) * count + len(large) + len(told) - len(last) + 3, elf.ABS64, entry, 0))
+    lines = made.section(".debug_line", elf.PROGBITS, 0, small * count + large + told)
+    made.relocations(lines, fields)
+    path = folder / "lines.o"
+    path.write_bytes(made.bytes())
+    return refused(folder, [path], None)
+
+
 def weak_ends(folder, count):
     made = Names()
     made.section(".text", elf.PROGBITS, CODE, b"\xc3")
@@ -452,6 +493,7 @@ INPUTS = {
     "debug-gaps": (debug_gaps, 2_000),
     "undefined": (undefined_ends, 20_000),
     "one-undefined": (one_undefined, 100_000),
+    "lines": (line_tables, 20_000),
 }
 
 # Those whose images have no tables for tools.

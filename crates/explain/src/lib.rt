@@ -7,6 +7,7 @@ mod files;
 mod lines;
 mod link;
 mod place;
+mod source_lines;
 mod text;
 mod wanted;
 

@@ -1,6 +1,7 @@
 //! How a place reads: a line that names the object, what is wrong in it, and why.
 
 use crate::place::Place;
+use crate::source_lines::write_source_line;
 use byteview::View;
 use command::Source;
 use elf_model::{ArFault, InputFile, LinkError, ObjFault, SHF_LINK_ORDER, STT_FUNC, Symbol};
@@ -166,11 +167,15 @@ impl<'a> At<'_, '_, 'a> {
         }
     }
 
-    /// Where a relocation is: its section, its offset there and its function.
+    /// Where a relocation is: its section, its offset there, its function and its source line.
     fn field<W: Write>(self, f: &mut Formatter<W>, place: &RelocationPlace<'_>) -> fmt::Result {
         let (section, offset) = (Name(place.section_name), place.entry.r_offset);
         let function = Called("in ", self.function_at(place.section, offset));
-        write!(f, "{self}{section}+{offset:#x}{function}: ")
+        write!(f, "{self}{section}+{offset:#x}{function}")?;
+        if let Some(object) = self.read() {
+            write_source_line(f, &object, place)?;
+        }
+        f.write_str(": ")
     }
 
     /// Which entry a relocation is, its type and its symbol with the section of that.

@@ -2,3 +2,4 @@
 mod bad_objects;
 mod lines;
 mod refused_links;
+mod source_lines;
