@@ -1,0 +1,4 @@
+pub mod CommonLines
+pub mod Maps
+pub mod Orders
+pub mod Parts
