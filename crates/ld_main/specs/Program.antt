@@ -1,5 +1,6 @@
 -- The exit statuses of the program and its lines, and what they say.
-use Rattle.std.specs.Prelude.{◌≡◌, ◌↔◌, ℕ, List, Option, [], ◌∷◌, ◌++◌, Bool, true, false, Ok, codes}
+use Rattle.std.specs.Prelude.{◌≡◌, ◌↔◌, ◌⊎◌, ℕ, List, Option, None, Some, [], ◌∷◌, ◌++◌, Bool, true, false, Ok, codes}
+use Rattle.std.specs.Cow.{cow_str_bytes}
 use Rattle.std.specs.Fmt.{decimal}
 use Rattle.std.specs.Io.KnownBytes.{Appends}
 use Rattle.elf_model.specs.Inputs.Command.{Plan, command_of}
@@ -9,11 +10,15 @@ use Rattle.elf_model.specs.declared.faults.CmdFault.{CmdFault}
 use Rattle.elf_model.specs.declared.faults.LinkError.{LinkError}
 use Rattle.elf_model.specs.declared.faults.LinkError.TheVariants as error
 use Rattle.elf_model.specs.declared.verdict.Clause.{Clause}
+use Rattle.file_io.specs.declared.file_ids.OutputPath.{OutputPath}
+use Rattle.image_write.specs.declared.sink.WriteFault.{WriteFault}
+use Rattle.image_write.specs.declared.sink.WriteFault.TheVariants as write_fault
 use Rattle.linker.specs.Refusals.{of_command}
 use Rattle.ld_main.specs.declared.failure.Failure.{Failure}
 use Rattle.ld_main.specs.declared.failure.Failure.TheVariants as failure
 use Rattle.ld_main.specs.declared.outcome.Outcome.{Outcome}
 use Rattle.ld_main.specs.declared.outcome.Outcome.TheVariants as outcome
+use Rattle.ld_main.specs.declared.writing.Outputs.{Outputs}
 
 -- an image and the text of a map are a right link of these files by these words
 abbrev pub LinksRight : List File → List (List ℕ) → Type 0
@@ -38,6 +43,37 @@ words_status f = error_status (of_command f)
 abbrev pub failure_status : Failure → ℕ
 failure_status (failure.Refused e s) = error_status e
 failure_status _ = 3
+
+-- the path that a failure says isn't written
+abbrev pub unwritten_path : Failure → Option (List ℕ)
+unwritten_path (failure.CannotWrite path) = Some path.now
+unwritten_path _ = None
+
+-- the failure for a fault in writing at a path: for want of memory, or of the path
+abbrev pub IsUnwritten : List ℕ → WriteFault → Failure → Type 0
+IsUnwritten path write_fault.Memory f = failure_status f ≡ 4
+IsUnwritten path write_fault.Device f = (failure_status f ≡ 3) × (unwritten_path f ≡ Some path)
+
+-- a failure in writing at a path, whatever the fault; and in writing outputs, at the path of one of them
+pub record IsUnwrittenAt (path : List ℕ) (f : Failure) : Type 0 where
+  pub fault : WriteFault
+  pub is : IsUnwritten path fault f
+
+abbrev pub IsUnwrittenMap : Option OutputPath → Failure → Type 0
+IsUnwrittenMap None f = ⊥
+IsUnwrittenMap (Some m) f = IsUnwrittenAt m.path.now f
+
+abbrev pub IsUnwrittenOf : Outputs → Failure → Type 0
+IsUnwrittenOf o f = IsUnwrittenAt o.image.path.now f ⊎ IsUnwrittenMap o.map f
+
+-- what is printed of a failure to read or to write: its line, with the path; the line of a refusal isn't said here
+abbrev pub path_line : List ℕ → List ℕ → List ℕ
+path_line what path = what ++ path ++ 10 ∷ []
+
+abbrev pub PrintsFailure : Failure → Option (List ℕ) → Option (List ℕ) → Type 0
+PrintsFailure (failure.Refused e s) old new = Unit {0}
+PrintsFailure (failure.CannotRead path) old new = Appends old new (path_line (codes "ld: cannot read ") (cow_str_bytes path))
+PrintsFailure (failure.CannotWrite path) old new = Appends old new (path_line (codes "ld: cannot write ") path.now)
 
 -- the status of an outcome
 abbrev pub outcome_status : Outcome → ℕ

@@ -1,6 +1,7 @@
 //! Why a run ends with a line on standard error.
-ghost use Rattle.std.specs.Prelude.{◌≡◌, ◌⊎◌, ◌≤◌};
-ghost use Rattle.ld_main.specs.Program.{error_status, failure_status, words_status};
+ghost use Rattle.std.specs.Prelude.{◌≡◌, ◌⊎◌, ◌≤◌, None, OnOk};
+ghost use Rattle.std.specs.Io.KnownBytes.{Appends};
+ghost use Rattle.ld_main.specs.Program.{IsUnwritten, PrintsFailure, error_status, failure_status, path_line, unwritten_path, words_status};
 
 use elf_model::{CmdFault, LinkError};
 use file_io::GatherFault;
@@ -84,10 +85,12 @@ impl Failure<'_> {
     }
 
     /// Prints the failure's line, and takes no memory.
-    pub fn print<W: Write>(&self, err: &mut W) -> io::Result<()> {
+    pub fn print<W: Write>(&self, err: &mut W) -> io::Result<()>
+        ensures { OnOk result (PrintsFailure self.now (W.contents err.old) (W.contents err.new)) }
+    {
         match self {
             Failure::Refused { error, symbol } => print_refusal(err, error, symbol.as_deref()),
-            Failure::CannotRead(path) => writeln!(err, "ld: cannot read {path}"),
+            Failure::CannotRead(path) => writeln!(err, "ld: cannot read {}", path.as_str()),
             Failure::CannotWrite(path) => writeln!(err, "ld: cannot write {path}"),
         }
     }
@@ -153,7 +156,7 @@ pub fn unread<'a>(path: CowStr<'a>, error: &io::Error) -> Failure<'a>
 
 /// The failure to write a file.
 pub fn unwritten<'a>(path: &'a str, fault: WriteFault) -> Failure<'a>
-    ensures { 3 ≤ failure_status result }
+    ensures { IsUnwritten path.entry.now fault result }
 {
     match fault {
         WriteFault::Memory => Failure::from(LinkError::Memory),

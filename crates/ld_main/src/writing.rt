@@ -1,7 +1,7 @@
 //! The writing of a link's outputs: both are whole before either has its name.
-ghost use Rattle.std.specs.Prelude.{◌≡◌, ◌≤◌, ℕ, List, IfErr, IfOk, IfSome, OnOk};
+ghost use Rattle.std.specs.Prelude.{◌≡◌, ◌⊎◌, ◌≤◌, ℕ, List, IfErr, IfOk};
 ghost use Rattle.std.specs.Io.KnownBytes.{Appends};
-ghost use Rattle.ld_main.specs.Program.{failure_status};
+ghost use Rattle.ld_main.specs.Program.{IsUnwrittenAt, IsUnwrittenOf, failure_status};
 
 use crate::content::Content;
 use crate::failure::{Failure, unwritten};
@@ -107,7 +107,7 @@ fn named<'a, R: Files, C: Content + Drop>(
     written: Pending<'a, C>,
 ) -> Result<C, Failure<'a>>
     requires { written.file.output ≡ path }
-    ensures { IfErr result (λ f. 3 ≤ failure_status f) }
+    ensures { IfErr result (IsUnwrittenAt path.entry.path.now) }
 {
     let Pending { file, content } = written;
     match file.finish(rt, content.is_program()) {
@@ -123,7 +123,7 @@ fn write_one<'a, R: Files + AllocGlobal + RandomSource, C: Content + Drop>(
     content: C,
 ) -> Result<C, Failure<'a>>
     requires { C.ready content }
-    ensures { IfErr result (λ f. 3 ≤ failure_status f) }
+    ensures { IfErr result (IsUnwrittenAt path.entry.path.now) }
 {
     match written(rt, path, content) {
         Ok(written) => named(rt, path, written),
@@ -141,7 +141,7 @@ fn without_map<'a, R: Files, I: Content + Drop>(
     fault: WriteFault,
 ) -> Failure<'a>
     requires { image.file.output ≡ image_path }
-    ensures { 3 ≤ failure_status result }
+    ensures { IsUnwrittenAt image_path.entry.path.now result ⊎ IsUnwrittenAt map_path.entry.path.now result }
 {
     match fault {
         WriteFault::Memory => {
@@ -165,7 +165,7 @@ fn write_both<'a, R: Files + AllocGlobal + RandomSource, I: Content + Drop, M: C
 ) -> Result<I, Failure<'a>>
     requires image { I.ready image }
     requires map { M.ready map }
-    ensures { IfErr result (λ f. 3 ≤ failure_status f) }
+    ensures { IfErr result (λ f. IsUnwrittenAt image_path.entry.path.now f ⊎ IsUnwrittenAt map_path.entry.path.now f) }
 {
     let image = match written(rt, image_path, image) {
         Ok(image) => image,
@@ -200,7 +200,8 @@ pub fn write_outputs<
 >(rt: &R, outputs: &Outputs<'a>, image: I, map: M) -> Result<I, Failure<'a>>
     requires image { I.ready image }
     requires map { M.ready map }
-    ensures { IfErr result (λ f. 3 ≤ failure_status f) }
+    ensures which { IfErr result (IsUnwrittenOf outputs.now) }
+    ensures least { IfErr result (λ f. 3 ≤ failure_status f) }
 {
     match outputs.map {
         Some(path) => write_both(rt, outputs.image, path, image, map),

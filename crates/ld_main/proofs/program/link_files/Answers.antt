@@ -15,4 +15,4 @@ unwritten {X} Q r f is high =
 
 pub returns-in_err-write_outputs-clause-words_alone : goal.returns-in_err-write_outputs-clause-words_alone
 returns-in_err-write_outputs-clause-words_alone g c =
-    unwritten _ c.from_residual.result c.in_err-write_outputs.field-0.0 (err_from_is_err_and c.from_residual.result c.from_residual.ensures.1) c.in_err-write_outputs.ensures
+    unwritten _ c.from_residual.result c.in_err-write_outputs.field-0.0 (err_from_is_err_and c.from_residual.result c.from_residual.ensures.1) c.in_err-write_outputs.ensures.least
