@@ -9,11 +9,7 @@ use check_link::{CommonLines, Names};
 use linkmap::BorrowedCommon;
 
 /// Whether each of some lines is that of its name's block.
-fn have_blocks(
-    index: &CommonLines<'_>,
-    names: &Names<'_, '_>,
-    lines: &[BorrowedCommon<'_>],
-) -> bool
+fn have_blocks(index: &CommonLines<'_>, names: &Names<'_, '_>, lines: &[BorrowedCommon<'_>]) -> bool
     ensures { IsTrue result ↔ All
         (λ line. HasCommonLine index.now names.now (cow_slice_items line.name)) lines.now }
 {

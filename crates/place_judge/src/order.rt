@@ -27,7 +27,9 @@ fn is_drop_before(p: &DropLine, q: &DropLine) -> bool
 fn are_drops_rising(lines: &[DropLine]) -> bool
     ensures { IsTrue result ↔ Ascends DropBefore lines.now }
 {
-    lines.windows(2).all(|pair| is_drop_before(&pair[0], &pair[1]))
+    lines
+        .windows(2)
+        .all(|pair| is_drop_before(&pair[0], &pair[1]))
 }
 
 fn is_place_before(p: &PlaceLine, q: &PlaceLine) -> bool
@@ -39,7 +41,9 @@ fn is_place_before(p: &PlaceLine, q: &PlaceLine) -> bool
 fn are_places_rising(lines: &[PlaceLine]) -> bool
     ensures { IsTrue result ↔ Ascends (λ p q. PlaceBefore (place_row p) (place_row q)) lines.now }
 {
-    lines.windows(2).all(|pair| is_place_before(&pair[0], &pair[1]))
+    lines
+        .windows(2)
+        .all(|pair| is_place_before(&pair[0], &pair[1]))
 }
 
 fn is_common_before(p: &CommonLine, q: &CommonLine) -> bool
@@ -51,7 +55,9 @@ fn is_common_before(p: &CommonLine, q: &CommonLine) -> bool
 fn are_commons_rising(lines: &[CommonLine]) -> bool
     ensures { IsTrue result ↔ Ascends (λ p q. CommonBefore (common_row p) (common_row q)) lines.now }
 {
-    lines.windows(2).all(|pair| is_common_before(&pair[0], &pair[1]))
+    lines
+        .windows(2)
+        .all(|pair| is_common_before(&pair[0], &pair[1]))
 }
 
 fn is_note_before(p: &NoteLine, q: &NoteLine) -> bool
@@ -63,7 +69,9 @@ fn is_note_before(p: &NoteLine, q: &NoteLine) -> bool
 fn are_notes_rising(lines: &[NoteLine]) -> bool
     ensures { IsTrue result ↔ Ascends NoteBefore lines.now }
 {
-    lines.windows(2).all(|pair| is_note_before(&pair[0], &pair[1]))
+    lines
+        .windows(2)
+        .all(|pair| is_note_before(&pair[0], &pair[1]))
 }
 
 fn is_value_before(p: &NameLine, q: &NameLine) -> bool
@@ -75,7 +83,9 @@ fn is_value_before(p: &NameLine, q: &NameLine) -> bool
 fn are_names_rising(lines: &[NameLine]) -> bool
     ensures { IsTrue result ↔ Ascends (λ p q. NameRowBefore (name_row p) (name_row q)) lines.now }
 {
-    lines.windows(2).all(|pair| is_value_before(&pair[0], &pair[1]))
+    lines
+        .windows(2)
+        .all(|pair| is_value_before(&pair[0], &pair[1]))
 }
 
 /// Whether the lines of sections come by object and section.

@@ -95,7 +95,12 @@ fn add_headers(things: &mut Vec<Thing>, image: &ForeignImage<'_>) -> Result<(), 
     let _program = image.image();
     let header = image.header();
     add_parts(things, image.segments(), 0, 64)?;
-    add_parts(things, image.segments(), header.e_phoff, 56 * header.e_phnum as u64)
+    add_parts(
+        things,
+        image.segments(),
+        header.e_phoff,
+        56 * header.e_phnum as u64,
+    )
 }
 
 /// All that takes up memory: the headers where segments have them, the linker's notes, and the pieces.
