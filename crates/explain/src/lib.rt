@@ -4,6 +4,8 @@
 #![tactic(auto)]
 
 mod files;
+mod hint_text;
+mod hints;
 mod lines;
 mod link;
 mod place;
@@ -11,6 +13,7 @@ mod source_lines;
 mod text;
 mod wanted;
 
+pub use hints::Hint;
 pub use lines::{write_more, write_places};
 pub use link::explain;
 pub use place::{EntryPlace, Found, Place, SymbolFault};

@@ -1,5 +1,7 @@
 //! The lines of an explanation: a line a place, and of an undefined name no more than three references.
 
+use crate::hint_text::write_hint;
+use crate::hints::undefined_name;
 use crate::place::{Found, Place};
 use crate::text::{Inputs, PlaceText};
 use ar_index::Archive;
@@ -9,7 +11,6 @@ use elf_model::{ArFault, CmdFault, InputFile};
 use elf_read::ObjectFile;
 use input_names::Name;
 use opening::{FileIndex, find_source};
-use relocate::RelocationFault;
 use std::alloc::{AllocError, Global};
 use std::collections::BTreeMap;
 use std::io;
@@ -20,14 +21,6 @@ const REFERENCES: usize = 3;
 
 /// The symbol of an object that gcc makes by -flto without -ffat-lto-objects.
 const SLIM: &[u8] = b"__gnu_lto_slim";
-
-/// The undefined name that a place asks for.
-fn undefined_name<'a>(place: &Place<'a>) -> Option<&'a [u8]> {
-    match place {
-        Place::Relocation(_, place, RelocationFault::Undefined) => Some(place.symbol_name),
-        _ => None,
-    }
-}
 
 /// How many of some places ask for an undefined name.
 fn references(places: &[Place<'_>], name: &[u8]) -> usize {
@@ -72,12 +65,12 @@ fn write_passed_archive<W: Write>(out: &mut W, inputs: Inputs<'_>, name: &[u8]) 
     Ok(())
 }
 
-/// Writes place `i`. Behind the first reference to an undefined name it says which archive has the name, behind the third one
-/// how many more there are.
+/// Writes place `i`. Behind the first reference to an undefined name it says which archive has the name and which defined name is
+/// like it, behind the third one how many more there are.
 fn write_line<W: Write>(
     out: &mut W,
     inputs: Inputs<'_>,
-    places: &[Place<'_>],
+    found: &Found<'_>,
     place: &Place<'_>,
     before: usize,
 ) -> io::Result<()> {
@@ -85,8 +78,9 @@ fn write_line<W: Write>(
     if let Some(name) = undefined_name(place) {
         if before == 0 {
             write_passed_archive(out, inputs, name)?;
+            write_hint(out, inputs, &found.hints, name)?;
         }
-        let rest = references(places, name).saturating_sub(REFERENCES);
+        let rest = references(&found.places, name).saturating_sub(REFERENCES);
         if before.saturating_add(1) == REFERENCES && rest > 0 {
             let ending = if rest == 1 { "" } else { "s" };
             write!(out, "; and {rest} more reference{ending} to it")?;
@@ -163,7 +157,7 @@ pub fn write_places<W: Write>(
         if lines >= most {
             more = more.saturating_add(1);
         } else if before < REFERENCES {
-            write_line(out, inputs, places, place, before)?;
+            write_line(out, inputs, found, place, before)?;
             lines = lines.saturating_add(1);
         }
     }

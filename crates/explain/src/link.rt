@@ -4,9 +4,11 @@ ghost use Rattle.elf_model.specs.Own.Causes.{Cause};
 ghost use Rattle.elf_model.specs.Inputs.Command.{IsBase};
 ghost use Rattle.elf_model.specs.Inputs.Files.{files_of, words_of};
 ghost use Rattle.elf_model.specs.Link.Pieces.{AreLawfulKinds};
+ghost use Rattle.explain.specs.Hints.{IsHintOf};
 ghost use Rattle.explain.specs.Places.{AreSo, Ground, Holds, OfLoaded, Says};
 
 use crate::files::add_unloaded;
+use crate::hints::{Hint, hints_of};
 use crate::place::{Added, Found, Place};
 use crate::wanted::{Wanted, add_wanted};
 use command::{Plan, read_words, refused_word};
@@ -76,16 +78,18 @@ fn add_loaded<'a>(found: &mut Found<'a>, loaded: &Loaded<'a>) -> Added
     }
 }
 
-/// Adds why the link of files that words name is refused.
+/// Adds why the link of files that words name is refused, and answers hints for the names that are asked for and not defined.
 fn add_reasons<'a>(
     found: &mut Found<'a>,
     files: &'a [InputFile],
     words: &'a [String],
     seed: NameSeed,
-) -> Added
+) -> Result<Vec<Hint<'a>>, AllocError>
     requires { (g : Ground) → AreSo g found.old.places.items }
-    ensures { OnOk result (All
+    ensures places { OnOk result (All
         (Says (files_of files.now) (words_of words.now)) found.new.places.items) }
+    ensures hints { IfOk result (λ hs. All
+        (IsHintOf (files_of files.entry.now) (words_of words.entry.now)) hs.items) }
 {
     let alloc = found.alloc;
     let plan = match read_words(alloc, words) {
@@ -93,18 +97,25 @@ fn add_reasons<'a>(
         Err(CmdFault::Memory) => return Err(AllocError),
         Err(fault) => {
             let number = refused_word(alloc, words)?;
-            return found.add(Some(Place::Word(number, fault)));
+            found.add(Some(Place::Word(number, fault)))?;
+            return Ok(Vec::new(alloc));
         }
     };
     match load_seeded(alloc, &plan, files, seed) {
-        Ok(loaded) => add_loaded(found, &loaded),
-        Err(fault) => add_unloaded(found, files, &plan, fault),
+        Ok(loaded) => {
+            add_loaded(found, &loaded)?;
+            hints_of(alloc, &loaded, &found.places)
+        }
+        Err(fault) => {
+            add_unloaded(found, files, &plan, fault)?;
+            Ok(Vec::new(alloc))
+        }
     }
 }
 
 /// Why the link of files that words name is refused with an error: the first places at which something is wrong, at most so
 /// many, and how many more there are. They are of the phase of the error, each with the error's cause or that of an error of the
-/// same phase; where none is found, the error as a whole. Names are found by hash, from a seed: who picks the names can make them
+/// same phase; where none is found, the error as a whole. Hints are definitions whose names are like those that are not defined. Names are found by hash, from a seed: who picks the names can make them
 /// collide only where the seed is known.
 ///
 /// # Errors
@@ -121,6 +132,8 @@ pub fn explain<'a>(
     requires { Cause (files_of files.now) (words_of words.now) error.now }
     ensures holds { IfOk result (λ f.
         All (Holds (files_of files.entry.now) (words_of words.entry.now)) f.places.items) }
+    ensures hints { IfOk result (λ f. All
+        (IsHintOf (files_of files.entry.now) (words_of words.entry.now)) f.hints.items) }
     ensures few { IfOk result (λ f. length f.places.items ≤ most) }
     ensures some { IfOk result (λ f. 0 < most → 0 < length f.places.items) }
 {
@@ -128,8 +141,10 @@ pub fn explain<'a>(
         LinkError::Memory => Err(AllocError),
         _ => {
             let mut found = Found::new(alloc, most);
-            add_reasons(&mut found, files, words, seed)?;
-            found.told(error, most)
+            let hints = add_reasons(&mut found, files, words, seed)?;
+            let mut told = found.told(error, most)?;
+            told.hints = hints;
+            Ok(told)
         }
     }
 }

@@ -5,6 +5,7 @@ ghost use Rattle.elf_model.specs.Own.Causes.{Cause};
 ghost use Rattle.elf_model.specs.declared.faults.LinkError.TheVariants as link_error;
 ghost use Rattle.explain.specs.Places.{AreSo, Ground, Holds, IsOf, IsSo, Says};
 
+use crate::hints::Hint;
 use bad_parts::BadPart;
 use command::Source;
 use elf_model::{ArFault, CmdFault, GroupFault, LinkError, ObjFault, SectionHeader, Symbol};
@@ -110,6 +111,8 @@ pub struct Found<'a> {
     pub(crate) alloc: Global,
     pub places: Vec<Place<'a>>,
     pub more: u64,
+    /// Definitions whose names are like those that places ask for.
+    pub hints: Vec<Hint<'a>>,
     most: usize,
 }
 
@@ -122,6 +125,7 @@ impl<'a> Found<'a> {
             alloc,
             places: Vec::new(alloc),
             more: 0,
+            hints: Vec::new(alloc),
             most,
         }
     }

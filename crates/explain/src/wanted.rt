@@ -46,14 +46,14 @@ pub enum Wanted<'w, 'a> {
 type Wrong<'a> = Option<Place<'a>>;
 
 /// The loaded object that has a number.
-fn object_at<'l, 'a>(loaded: &'l Loaded<'a>, k: usize) -> Option<&'l LoadedObject<'a>>
+pub(crate) fn object_at<'l, 'a>(loaded: &'l Loaded<'a>, k: usize) -> Option<&'l LoadedObject<'a>>
     ensures { IfSome result (λ one. slice_get loaded.now.objects k ≡ Some (loaded_view one.now)) }
 {
     loaded.objects().get(k)
 }
 
 /// Where a loaded object is.
-fn reached<'a>(one: &LoadedObject<'a>) -> Reached<'a>
+pub(crate) fn reached<'a>(one: &LoadedObject<'a>) -> Reached<'a>
     ensures { IsObjectAt result (loaded_view one.now) }
 {
     Reached {

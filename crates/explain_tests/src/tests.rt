@@ -1,5 +1,6 @@
 //! The tests, and what they are made of.
 mod bad_objects;
+mod hints;
 mod lines;
 mod refused_links;
 mod source_lines;

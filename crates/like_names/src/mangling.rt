@@ -12,10 +12,14 @@ fn behind<'a>(name: &'a [u8], text: &[u8]) -> Option<&'a [u8]>
     name.strip_prefix(text)
 }
 
+/// A number has no more decimal digits.
+const DIGITS: usize = 20;
+
 /// How many bytes a name has by the decimal digits that it begins with.
 fn spelled_len(name: &[u8]) -> Option<usize> {
-    let digits = name.iter().take_while(|b| b.is_ascii_digit()).count();
-    str::from_utf8(name.get(..digits)?).ok()?.parse().ok()
+    let first = name.get(..DIGITS.min(name.len()))?;
+    let digits = first.iter().take_while(|b| b.is_ascii_digit()).count();
+    str::from_utf8(first.get(..digits)?).ok()?.parse().ok()
 }
 
 /// The name of a function of C++ in no namespace, as its source has it, by its name for linkers: what stands behind `_Z` and the

@@ -1,0 +1,327 @@
+//! What is told beside a fault: names that are like those which nothing defines, all names that have two definitions, the member
+//! at which a file is no archive, and what words lack.
+use crate::tests::lines::lines_of;
+use link_samples::links::{File, files_of};
+use link_samples::objects::{NamedSymbol, Relocation, Section};
+use link_samples::parts::{F, LOCAL, NO_F, R_PC32, START, TEXT};
+use std::process::Abort;
+use std::test::Fail;
+
+/// Files, the words of a line, and the text of their places.
+type Row = (&'static [File], &'static str, &'static str);
+
+/// Asserts that the links of rows are explained as they say.
+fn assert_rows<R: AllocGlobal + Abort>(rt: &R, rows: &[Row]) -> Result<(), Fail> {
+    for (files, line, wanted) in rows {
+        let files = files_of(rt.alloc(), files)?;
+        let text = lines_of(rt.alloc(), &files, line, 9)?;
+        assert_eq!(rt; text.as_str(), *wanted, "{line}");
+    }
+    Ok(())
+}
+
+const LONG_TEXT: Section<'static> = Section {
+    bytes: &[0x90; 24],
+    ..TEXT
+};
+
+/// References to symbols 2 and 3.
+const REFERENCES: [Relocation; 2] = [
+    Relocation(1, 0, R_PC32, 2, 0),
+    Relocation(1, 4, R_PC32, 3, 0),
+];
+
+const NOTHING: File = File::Object(
+    "n.o",
+    &[TEXT],
+    &[
+        NamedSymbol {
+            name: "colour",
+            ..NO_F
+        },
+        NamedSymbol {
+            name: "fornt",
+            ..NO_F
+        },
+    ],
+    &[],
+);
+
+/// Names by one edit, of several objects: a byte inserted or left out, one replaced, two exchanged. A name of two edits, one of
+/// other objects alone, a short one, and one that is asked for only, are none.
+const SIMILAR: [Row; 4] = [
+    (
+        &[
+            File::Object(
+                "a.o",
+                &[LONG_TEXT],
+                &[
+                    START,
+                    NamedSymbol {
+                        name: "colour",
+                        ..NO_F
+                    },
+                    NamedSymbol {
+                        name: "fornt",
+                        ..NO_F
+                    },
+                ],
+                &REFERENCES,
+            ),
+            NOTHING,
+            File::Object(
+                "b.o",
+                &[TEXT],
+                &[
+                    NamedSymbol {
+                        name: "color",
+                        st_shndx: 1,
+                        ..LOCAL
+                    },
+                    NamedSymbol { name: "front", ..F },
+                ],
+                &[],
+            ),
+            File::Object(
+                "c.o",
+                &[TEXT],
+                &[
+                    NamedSymbol { name: "colr", ..F },
+                    NamedSymbol { name: "color", ..F },
+                ],
+                &[],
+            ),
+        ],
+        "a.o n.o b.o c.o",
+        "a.o: .text+0x0 in _start: colour is not defined (relocation 0 of section 4, R_X86_64_PC32, to symbol 2); did you \
+         mean color (in c.o)?\n\
+         a.o: .text+0x4 in _start: fornt is not defined (relocation 1 of section 4, R_X86_64_PC32, to symbol 3); did you \
+         mean front (in b.o)?\n",
+    ),
+    (
+        &[
+            File::Object(
+                "a.o",
+                &[LONG_TEXT],
+                &[
+                    START,
+                    NamedSymbol {
+                        name: "size",
+                        ..NO_F
+                    },
+                    NamedSymbol {
+                        name: "stert",
+                        ..NO_F
+                    },
+                ],
+                &REFERENCES,
+            ),
+            File::Object(
+                "b.o",
+                &[TEXT],
+                &[
+                    NamedSymbol { name: "sized", ..F },
+                    NamedSymbol { name: "sizes", ..F },
+                ],
+                &[],
+            ),
+            File::Object("c.o", &[TEXT], &[NamedSymbol { name: "start", ..F }], &[]),
+        ],
+        "a.o b.o c.o",
+        "a.o: .text+0x0 in _start: size is not defined (relocation 0 of section 4, R_X86_64_PC32, to symbol 2); did you mean \
+         sized (in b.o)?\n\
+         a.o: .text+0x4 in _start: stert is not defined (relocation 1 of section 4, R_X86_64_PC32, to symbol 3); did you mean \
+         start (in c.o)?\n",
+    ),
+    (
+        &[
+            File::Object(
+                "a.o",
+                &[LONG_TEXT],
+                &[
+                    START,
+                    NamedSymbol { name: "go", ..NO_F },
+                    NamedSymbol {
+                        name: "stort",
+                        ..NO_F
+                    },
+                ],
+                &REFERENCES,
+            ),
+            File::Object(
+                "b.o",
+                &[TEXT],
+                &[
+                    NamedSymbol { name: "to", ..F },
+                    NamedSymbol {
+                        name: "starts",
+                        ..F
+                    },
+                    NamedSymbol {
+                        name: "tsorts",
+                        ..F
+                    },
+                ],
+                &[],
+            ),
+        ],
+        "a.o b.o",
+        "a.o: .text+0x0 in _start: go is not defined (relocation 0 of section 4, R_X86_64_PC32, to symbol 2)\n\
+         a.o: .text+0x4 in _start: stort is not defined (relocation 1 of section 4, R_X86_64_PC32, to symbol 3)\n",
+    ),
+    // Two neighbours that are exchanged stand at the beginning, or at the end.
+    (
+        &[
+            File::Object(
+                "a.o",
+                &[LONG_TEXT],
+                &[
+                    START,
+                    NamedSymbol {
+                        name: "raed",
+                        ..NO_F
+                    },
+                    NamedSymbol {
+                        name: "wrtie",
+                        ..NO_F
+                    },
+                ],
+                &REFERENCES,
+            ),
+            File::Object(
+                "b.o",
+                &[TEXT],
+                &[
+                    NamedSymbol { name: "write", ..F },
+                    NamedSymbol { name: "read", ..F },
+                ],
+                &[],
+            ),
+        ],
+        "a.o b.o",
+        "a.o: .text+0x0 in _start: raed is not defined (relocation 0 of section 4, R_X86_64_PC32, to symbol 2); did you mean \
+         read (in b.o)?\n\
+         a.o: .text+0x4 in _start: wrtie is not defined (relocation 1 of section 4, R_X86_64_PC32, to symbol 3); did you mean \
+         write (in b.o)?\n",
+    ),
+];
+
+#[test]
+fn similar_names_are_told(rt: HostRuntime) -> Result<(), Fail> {
+    assert_rows(&rt, &SIMILAR)
+}
+
+/// Functions of C++ that are those of C, and the other way round; they are told before similar names, which come first. A function
+/// of a namespace, and one whose number of bytes is another one, are none.
+const MANGLED: [Row; 2] = [
+    (
+        &[
+            File::Object(
+                "a.o",
+                &[LONG_TEXT],
+                &[
+                    START,
+                    NamedSymbol {
+                        name: "scan",
+                        ..NO_F
+                    },
+                    NamedSymbol {
+                        name: "draw",
+                        ..NO_F
+                    },
+                ],
+                &REFERENCES,
+            ),
+            File::Object(
+                "b.o",
+                &[TEXT],
+                &[
+                    NamedSymbol { name: "scans", ..F },
+                    NamedSymbol {
+                        name: "_ZN1n4scanEv",
+                        ..F
+                    },
+                ],
+                &[],
+            ),
+            File::Object(
+                "c.o",
+                &[TEXT],
+                &[
+                    NamedSymbol {
+                        name: "_Z5scan1v",
+                        ..F
+                    },
+                    NamedSymbol {
+                        name: "_Z4scanPKc",
+                        ..F
+                    },
+                    NamedSymbol {
+                        name: "_Z4drawv",
+                        ..F
+                    },
+                ],
+                &[],
+            ),
+        ],
+        "a.o b.o c.o",
+        "a.o: .text+0x0 in _start: scan is not defined (relocation 0 of section 4, R_X86_64_PC32, to symbol 2); c.o defines \
+         _Z4scanPKc, the function scan of C++: declare it extern \"C\" there\n\
+         a.o: .text+0x4 in _start: draw is not defined (relocation 1 of section 4, R_X86_64_PC32, to symbol 3); c.o defines \
+         _Z4drawv, the function draw of C++: declare it extern \"C\" there\n",
+    ),
+    (
+        &[
+            File::Object(
+                "a.o",
+                &[LONG_TEXT],
+                &[
+                    START,
+                    NamedSymbol {
+                        name: "_Z4scani",
+                        ..NO_F
+                    },
+                    NamedSymbol {
+                        name: "_Z11draw_circlev",
+                        ..NO_F
+                    },
+                ],
+                &REFERENCES,
+            ),
+            File::Object(
+                "b.o",
+                &[TEXT],
+                &[
+                    NamedSymbol {
+                        name: "_Z4scanl",
+                        ..F
+                    },
+                    NamedSymbol {
+                        name: "draw_circle",
+                        ..F
+                    },
+                ],
+                &[],
+            ),
+            File::Object(
+                "c.o",
+                &[TEXT],
+                &[
+                    NamedSymbol { name: "scan", ..F },
+                    NamedSymbol { name: "draw", ..F },
+                ],
+                &[],
+            ),
+        ],
+        "a.o b.o c.o",
+        "a.o: .text+0x0 in _start: _Z4scani is not defined (relocation 0 of section 4, R_X86_64_PC32, to symbol 2); c.o \
+         defines scan: declare it extern \"C\" where it is called\n\
+         a.o: .text+0x4 in _start: _Z11draw_circlev is not defined (relocation 1 of section 4, R_X86_64_PC32, to symbol 3); \
+         b.o defines draw_circle: declare it extern \"C\" where it is called\n",
+    ),
+];
+
+#[test]
+fn functions_of_cpp_are_told(rt: HostRuntime) -> Result<(), Fail> {
+    assert_rows(&rt, &MANGLED)
+}
