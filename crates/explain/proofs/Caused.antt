@@ -82,8 +82,8 @@ caused files words (place.Archive p f) g s =
     let same = one_plan words g.0 t.0 g.1.words_are t.1 in (
       t.0,
       subst (HasFiles files words) same g.1,
-      t.2.stands.0,
-      Any-from_contains (IsBadArchive f) (opened files t.0) t.2.item (Contains-from_slice_get (opened files t.0) p.item t.2.item t.2.there) t.2.stands.1,
+      t.2.0.stands.0,
+      Any-from_contains (IsBadArchive f) (opened files t.0) t.2.0.item (Contains-from_slice_get (opened files t.0) p.item t.2.0.item t.2.0.there) t.2.0.stands.1,
     )
 caused files words (place.NoIndex p) g s =
     let t = of_plan s in

@@ -13,12 +13,14 @@ use Rattle.elf_model.specs.Link.Placement.{section_address}
 use Rattle.elf_model.specs.Link.RelocationValues.{Fits, value_of}
 use Rattle.elf_model.specs.Link.Slots as wanted_slots
 use Rattle.elf_model.specs.Link.Resolution.{IsDuplicate, IsEntry, IsSoundCommon, IsSoundSymbol, SymbolOf, is_strong, symbol_of}
+use Rattle.elf_model.specs.declared.faults.ArFault.{ArFault}
 use Rattle.elf_model.specs.declared.faults.ArFault.TheVariants as archive_fault
 use Rattle.elf_model.specs.declared.faults.CmdFault.{CmdFault}
 use Rattle.elf_model.specs.declared.faults.LinkError.{LinkError}
 use Rattle.elf_model.specs.declared.faults.LinkError.TheVariants as error
 use Rattle.elf_model.specs.declared.records.SectionHeader.{SectionHeader}
 use Rattle.elf_model.specs.declared.records.Symbol.{Symbol}
+use Rattle.bad_members.specs.BadMembers.{IsBadMember}
 use Rattle.bad_parts.specs.BadParts.{IsBadOf}
 use Rattle.command.specs.RefusedWords.{AreRefused}
 use Rattle.command.specs.Views.{source_of}
@@ -140,10 +142,14 @@ pub record IsMissing (files : List File) (plan : Plan) (i : ℕ) (source : Sourc
   pub source_is : source_of source ≡ item.source
   pub missing : ¬ HasFile files plan.directories item
 
+-- a fault of an archive is that of the member whose header is at an offset, or of the whole file, where that is 0
+abbrev pub IsOffsetOf : List ℕ → ArFault → ℕ → Type 0
+IsOffsetOf bytes f at = (at ≡ 0) ⊎ IsBadMember bytes f at
+
 -- what a place says of the files of a plan
 abbrev pub HoldsOf : List File → Plan → Place → Type 0
 HoldsOf files plan (place.Missing i source) = IsMissing files plan i source
-HoldsOf files plan (place.Archive p f) = IsItemAt files plan p (λ o. (f ≢ archive_fault.Memory) × IsBadArchive f o)
+HoldsOf files plan (place.Archive p f) = IsItemAt files plan p (λ o. (f ≢ archive_fault.Memory) × IsBadArchive f o) × IsOffsetOf p.bytes.now f p.offset
 HoldsOf files plan (place.NoIndex p) = IsItemAt files plan p IsWithoutIndex
 HoldsOf files plan (place.Object p f part) = IsStoppedAt files plan p (search_fault.BadObject f) × IfSome part (IsBadOf p.bytes.now f)
 HoldsOf files plan (place.Groups p f) = IsStoppedAt files plan p (search_fault.Group f)

@@ -4,12 +4,13 @@ ghost use Rattle.std.specs.List.{slice_get};
 ghost use Rattle.command.specs.Views.{item_of};
 ghost use Rattle.elf_model.specs.Inputs.Command as command;
 ghost use Rattle.elf_model.specs.Inputs.Files.{File, files_of};
-ghost use Rattle.explain.specs.Places.{AreSo, HoldsOf, IsOpened, OfPlan};
+ghost use Rattle.explain.specs.Places.{AreSo, HoldsOf, IsOffsetOf, IsOpened, OfPlan};
 
 use crate::place::{Added, Found, Place};
+use bad_members::bad_member;
 use bad_parts::bad_part;
 use command::{Item, Plan};
-use elf_model::InputFile;
+use elf_model::{ArFault, InputFile};
 use opening::{FileIndex, OpenFault, OpenedItem, find_source, read_input};
 use search::{Reached, SearchFault, refused_object};
 use std::alloc::{AllocError, Global};
@@ -17,12 +18,22 @@ use std::alloc::{AllocError, Global};
 /// A place at which something is wrong, where there is one.
 type Wrong<'a> = Result<Option<Place<'a>>, AllocError>;
 
+/// The offset of the header of the member at which a file is no archive; 0 where the fault is none of a member.
+fn member_offset(bytes: &[u8], fault: ArFault) -> u64
+    ensures { IsOffsetOf bytes.now fault result }
+{
+    match bad_member(bytes, fault) {
+        Some(at) => at,
+        None => 0,
+    }
+}
+
 /// An opened item, where it is read as an archive, and can't be searched.
 fn bad_archive<'a>(alloc: Global, item: &OpenedItem<'a>) -> Wrong<'a>
     ensures { (files : List File) (plan : command.Plan) →
         IsOpened files plan item.now → IfOk result (λ o. IfSome o (HoldsOf files plan)) }
 {
-    let at = Reached {
+    let whole = Reached {
         item: item.number,
         path: item.path,
         offset: 0,
@@ -30,8 +41,11 @@ fn bad_archive<'a>(alloc: Global, item: &OpenedItem<'a>) -> Wrong<'a>
     };
     match read_input(alloc, item) {
         Ok(_) => Ok(None),
-        Err(OpenFault::BadArchive(fault)) => Ok(Some(Place::Archive(at, fault))),
-        Err(OpenFault::NoIndex) => Ok(Some(Place::NoIndex(at))),
+        Err(OpenFault::BadArchive(fault)) => {
+            let offset = member_offset(item.bytes, fault);
+            Ok(Some(Place::Archive(Reached { offset, ..whole }, fault)))
+        }
+        Err(OpenFault::NoIndex) => Ok(Some(Place::NoIndex(whole))),
         Err(_) => Err(AllocError),
     }
 }

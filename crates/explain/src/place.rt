@@ -39,7 +39,8 @@ pub enum SymbolFault {
     Duplicate,
 }
 
-/// Where something is wrong, and what. Of an object it has where loading comes to it, of an archive the same with the offset 0.
+/// Where something is wrong, and what. Of an object it has where loading comes to it, of an archive the same
+/// with the offset of the header of the member that is at fault, or 0.
 #[derive(Clone, Copy, Debug)]
 pub enum Place<'a> {
     /// A word of the command, by its number from 0; None where all of them together are refused.

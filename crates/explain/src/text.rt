@@ -98,6 +98,17 @@ fn object_text(fault: ObjFault) -> &'static str {
     }
 }
 
+/// What a fault of an archive says of the member whose header is at an offset; nothing where that is 0.
+fn member_text(fault: ArFault, offset: u64) -> &'static str {
+    match fault {
+        ArFault::Truncated if offset != 0 => ": the file ends within this member",
+        ArFault::BadHeader if offset != 0 => {
+            ": this is no header of a member, or no line feed makes its data even"
+        }
+        _ => "",
+    }
+}
+
 /// Whether a symbol is a function with a byte at an offset of a section.
 fn covers(symbol: &Symbol, section: u32, offset: u64) -> bool {
     symbol.symbol_type() == STT_FUNC
@@ -215,7 +226,7 @@ impl PlaceText<'_, '_, '_> {
             }
             Place::Archive(object, fault) => {
                 let at = At { inputs, object };
-                write!(f, "{at}{fault}")?;
+                write!(f, "{at}{fault}{}", member_text(*fault, object.offset))?;
                 at.kind(f, *fault == ArFault::NotArchive)
             }
             Place::NoIndex(object) => {

@@ -325,3 +325,87 @@ const MANGLED: [Row; 2] = [
 fn functions_of_cpp_are_told(rt: HostRuntime) -> Result<(), Fail> {
     assert_rows(&rt, &MANGLED)
 }
+
+const PLAIN: File = File::Object("a.o", &[TEXT], &[START], &[]);
+
+/// Archives of two members: the second one is cut, in its data and in its header; its header has no end, and the byte behind its
+/// data is no line feed. The first member is cut.
+const BROKEN: [Row; 5] = [
+    (
+        &[
+            PLAIN,
+            File::Bytes(
+                "cut.a",
+                b"!<arch>\n\
+                  one.o/          0           0     0     644     4         `\n\
+                  \x7fELF\
+                  two.o/          0           0     0     644     4         `\n\
+                  \x7fEL",
+            ),
+        ],
+        "a.o cut.a",
+        "cut.a(two.o at 0x48): Truncated (3): the file ends within this member\n",
+    ),
+    (
+        &[
+            PLAIN,
+            File::Bytes(
+                "half.a",
+                b"!<arch>\n\
+                  one.o/          0           0     0     644     3         `\n\
+                  \x7fEL\n\
+                  two.o/          0           0",
+            ),
+        ],
+        "a.o half.a",
+        "half.a(two.o at 0x48): Truncated (3): the file ends within this member\n",
+    ),
+    (
+        &[
+            PLAIN,
+            File::Bytes(
+                "over.a",
+                b"!<arch>\n\
+                  one.o/          0           0     0     644     2         `\n\
+                  \x7fE\
+                  two.o/          0           0     0     644     4         x\n\
+                  \x7fELF",
+            ),
+        ],
+        "a.o over.a",
+        "over.a(two.o at 0x46): BadHeader (4): this is no header of a member, or no line feed makes its data even\n",
+    ),
+    (
+        &[
+            PLAIN,
+            File::Bytes(
+                "odd.a",
+                b"!<arch>\n\
+                  one.o/          0           0     0     644     1         `\n\
+                  x\n\
+                  two.o/          0           0     0     644     1         `\n\
+                  yz",
+            ),
+        ],
+        "a.o odd.a",
+        "odd.a(two.o at 0x46): BadHeader (4): this is no header of a member, or no line feed makes its data even\n",
+    ),
+    (
+        &[
+            PLAIN,
+            File::Bytes(
+                "one.a",
+                b"!<arch>\n\
+                  one.o/          0           0     0     644     9         `\n\
+                  \x7fELF",
+            ),
+        ],
+        "a.o one.a",
+        "one.a(one.o at 0x8): Truncated (3): the file ends within this member\n",
+    ),
+];
+
+#[test]
+fn broken_members_are_told(rt: HostRuntime) -> Result<(), Fail> {
+    assert_rows(&rt, &BROKEN)
+}
