@@ -12,6 +12,7 @@ mod place;
 mod source_lines;
 mod text;
 mod wanted;
+mod word_text;
 
 pub use hints::Hint;
 pub use lines::{write_more, write_places};

@@ -2,6 +2,7 @@
 
 use crate::place::Place;
 use crate::source_lines::write_source_line;
+use crate::word_text::WordText;
 use byteview::View;
 use command::Source;
 use elf_model::{ArFault, InputFile, LinkError, ObjFault, SHF_LINK_ORDER, STT_FUNC, Symbol};
@@ -86,7 +87,8 @@ fn object_text(fault: ObjFault) -> &'static str {
         ObjFault::NotElf64 => "no ELF file of 64 bits",
         ObjFault::NotRelocatable => "no relocatable object",
         ObjFault::WrongMachine => "not for x86-64",
-        ObjFault::BadSectionTable => "its section header table is unlawful",
+        ObjFault::BadSectionTable =>
+            "its section header table is unlawful, or runs past the end of the file",
         ObjFault::BadSectionRange => "a section is outside the file, or of an unlawful alignment",
         ObjFault::BadString => "a name has no text in its string table",
         ObjFault::BadSymbolTable => {
@@ -311,11 +313,14 @@ impl PlaceText<'_, '_, '_> {
 impl fmt::Display for PlaceText<'_, '_, '_> {
     fn fmt<W: Write>(&self, f: &mut Formatter<W>) -> fmt::Result {
         match self.place {
-            Place::Word(None, fault) => write!(f, "the words together: {fault}"),
-            Place::Word(Some(number), fault) => {
-                let word = self.inputs.words.get(*number as usize);
-                let word = Called("", word.map(|word| word.as_bytes()));
-                write!(f, "word {number}{word}: {fault}")
+            Place::Word(number, fault) => {
+                let (words, number, fault) = (self.inputs.words, *number, *fault);
+                let text = WordText {
+                    words,
+                    number,
+                    fault,
+                };
+                write!(f, "{text}")
             }
             Place::Entry(name) => {
                 write!(f, "the entry {} has no definition ", Name(name.as_bytes()))?;

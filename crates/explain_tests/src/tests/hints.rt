@@ -409,3 +409,37 @@ const BROKEN: [Row; 5] = [
 fn broken_members_are_told(rt: HostRuntime) -> Result<(), Fail> {
     assert_rows(&rt, &BROKEN)
 }
+
+const WORDS: [Row; 5] = [
+    (
+        &[],
+        "a.o --start-group b.a",
+        "the words together: GroupNesting (5): --start-group is not closed: --end-group is missing\n",
+    ),
+    (
+        &[],
+        "-( b.a -( c.a -)",
+        "word 2 -(: GroupNesting (5): a group in a group: --end-group is missing before it\n",
+    ),
+    (
+        &[],
+        "a.o --end-group",
+        "word 1 --end-group: GroupNesting (5): no --start-group is before it\n",
+    ),
+    (
+        &[],
+        "--start-group b.a -) -)",
+        "word 3 -): GroupNesting (5): no --start-group is before it\n",
+    ),
+    (
+        &[],
+        "a.o -Ttext-segment=0x401001",
+        "word 1 -Ttext-segment=0x401001: BadNumber (4): a base is 0x and hexadecimal digits, a multiple of 4096 from 0x1000 on \
+         and below 2^46\n",
+    ),
+];
+
+#[test]
+fn what_words_lack_is_told(rt: HostRuntime) -> Result<(), Fail> {
+    assert_rows(&rt, &WORDS)
+}

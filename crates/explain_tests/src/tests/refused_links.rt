@@ -46,7 +46,8 @@ const WORDS: [Row; 7] = [
         &[PLAIN],
         "a.o -Ttext-segment=4096",
         9,
-        "word 1 -Ttext-segment=4096: BadNumber (4)\n",
+        "word 1 -Ttext-segment=4096: BadNumber (4): a base is 0x and hexadecimal digits, a multiple of 4096 from 0x1000 on and \
+         below 2^46\n",
     ),
     (
         &[PLAIN],
