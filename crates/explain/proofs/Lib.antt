@@ -1,1 +1,3 @@
 pub mod Caused
+pub mod Seconds
+pub mod Twice

@@ -3,6 +3,7 @@
 //! Begin with `explain`.
 #![tactic(auto)]
 
+mod duplicates;
 mod files;
 mod hint_text;
 mod hints;

@@ -7,6 +7,7 @@ ghost use Rattle.elf_model.specs.Link.Pieces.{AreLawfulKinds};
 ghost use Rattle.explain.specs.Hints.{IsHintOf};
 ghost use Rattle.explain.specs.Places.{AreSo, Ground, Holds, OfLoaded, Says};
 
+use crate::duplicates::add_other_duplicates;
 use crate::files::add_unloaded;
 use crate::hints::{Hint, hints_of};
 use crate::place::{Added, Found, Place};
@@ -73,7 +74,8 @@ fn add_loaded<'a>(found: &mut Found<'a>, loaded: &Loaded<'a>) -> Added
         Err(ResolveFault::BadCommon) => add_wanted(found, Wanted::UnsoundCommons, loaded),
         Err(ResolveFault::BadSymbol) => add_wanted(found, Wanted::UnsoundSymbols, loaded),
         Err(ResolveFault::Duplicate(name)) => {
-            add_wanted(found, Wanted::Definitions(&name), loaded)
+            add_wanted(found, Wanted::Definitions(&name), loaded)?;
+            add_other_duplicates(found, loaded, &name)
         }
     }
 }

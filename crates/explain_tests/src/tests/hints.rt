@@ -326,6 +326,97 @@ fn functions_of_cpp_are_told(rt: HostRuntime) -> Result<(), Fail> {
     assert_rows(&rt, &MANGLED)
 }
 
+const WEAK_G: NamedSymbol<'static> = NamedSymbol {
+    name: "g",
+    st_info: 0x22,
+    ..F
+};
+
+const TWICE: [Row; 2] = [
+    // Names in another order than their objects, and one that three define; weak definitions are none.
+    (
+        &[
+            File::Object(
+                "a.o",
+                &[TEXT],
+                &[
+                    START,
+                    NamedSymbol { name: "h", ..F },
+                    NamedSymbol { name: "f", ..F },
+                    WEAK_G,
+                ],
+                &[],
+            ),
+            File::Object(
+                "b.o",
+                &[TEXT],
+                &[
+                    NamedSymbol { name: "f", ..F },
+                    NamedSymbol { name: "g", ..F },
+                    NamedSymbol { name: "e", ..F },
+                ],
+                &[],
+            ),
+            File::Object(
+                "c.o",
+                &[TEXT],
+                &[
+                    NamedSymbol { name: "h", ..F },
+                    NamedSymbol { name: "e", ..F },
+                    WEAK_G,
+                    NamedSymbol { name: "f", ..F },
+                ],
+                &[],
+            ),
+        ],
+        "a.o b.o c.o",
+        "a.o: symbol 3 f of .text: defined here\n\
+         b.o: symbol 1 f of .text: defined here\n\
+         c.o: symbol 4 f of .text: defined here\n\
+         b.o: symbol 3 e of .text: defined here\n\
+         c.o: symbol 2 e of .text: defined here\n\
+         a.o: symbol 2 h of .text: defined here\n\
+         c.o: symbol 1 h of .text: defined here\n",
+    ),
+    // Two definitions of a name in one object, beside two of another name in two.
+    (
+        &[
+            File::Object(
+                "a.o",
+                &[TEXT],
+                &[
+                    START,
+                    NamedSymbol { name: "f", ..F },
+                    NamedSymbol { name: "f", ..F },
+                ],
+                &[],
+            ),
+            File::Object(
+                "b.o",
+                &[TEXT],
+                &[
+                    NamedSymbol { name: "g", ..F },
+                    NamedSymbol {
+                        name: "_start",
+                        ..F
+                    },
+                ],
+                &[],
+            ),
+        ],
+        "a.o b.o",
+        "a.o: symbol 2 f of .text: defined here\n\
+         a.o: symbol 3 f of .text: defined here\n\
+         a.o: symbol 1 _start of .text: defined here\n\
+         b.o: symbol 2 _start of .text: defined here\n",
+    ),
+];
+
+#[test]
+fn all_names_that_are_defined_twice_are_told(rt: HostRuntime) -> Result<(), Fail> {
+    assert_rows(&rt, &TWICE)
+}
+
 const PLAIN: File = File::Object("a.o", &[TEXT], &[START], &[]);
 
 /// Archives of two members: the second one is cut, in its data and in its header; its header has no end, and the byte behind its
