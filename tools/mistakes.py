@@ -144,7 +144,7 @@ MISTAKES = [
         "m.o|main|f is not defined|m.c:3",
         lambda: [start(body="call main"), c_file("m.c", "int f(int);\n\nint main(void) { return f(1); }\n", "-g")],
     ),
-    mistake("a name is misspelt", "a.o|colour is not defined|color", lambda: [start(body="call colour"), asm("b.o", FUNCTION.format("color"))]),
+    mistake("a name is misspelt", "a.o|colour is not defined|did you mean color (in b.o)", lambda: [start(body="call colour"), asm("b.o", FUNCTION.format("color"))]),
     mistake(
         "a method of C++ is declared only",
         "m.o|main|_ZN1S3runEv is not defined",
@@ -181,6 +181,11 @@ MISTAKES = [
         "a.o|b.o|f",
         lambda: [start(body="f: ret\n.globl f"), asm("b.o", F)],
     ),
+    mistake(
+        "several functions are defined twice",
+        "a.o: symbol 3 g |b.o: symbol 1 g |a.o: symbol 2 f |b.o: symbol 2 f ",
+        lambda: [start(body="f: ret\n.globl f\ng: ret\n.globl g"), asm("b.o", FUNCTION.format("g") + F)],
+    ),
     mistake("an object is named twice", "a.o|item 0|item 1|_start", lambda: [start(), "a.o"]),
     mistake("a header defines a variable", "a.o|b.o|count|.bss", lambda: [c("a.o", HEADER + "void _start(void) {}\n"), c("b.o", HEADER)]),
     mistake(
@@ -201,8 +206,8 @@ MISTAKES = [
     mistake("a page of the web is named as a library", "libf.a|text", lambda: [start(body=CALL_F), text("libf.a", PAGE)]),
     mistake("a thin archive is named", "f.a|thin archive", lambda: [start(body=CALL_F), ar("f.a", "rcsT", asm("f.o", F))]),
     mistake("an archive has no index", "f.a|index|ranlib", lambda: [start(body=CALL_F), ar("f.a", "rcS", asm("f.o", F))]),
-    mistake("an archive was cut", "f.a|Truncated (3)|f.o", lambda: [start(body=CALL_F), part(ar("f.a", "rcs", asm("f.o", F)))]),
-    mistake("an archive was overwritten in the middle", "f.a|BadHeader (4)|g.o", lambda: [start(body=CALL_F), broken(ar("f.a", "rcs", asm("f.o", F), asm("g.o", "nop\n")))]),
+    mistake("an archive was cut", "f.a(f.o at 0x4e)|Truncated (3)", lambda: [start(body=CALL_F), part(ar("f.a", "rcs", asm("f.o", F)))]),
+    mistake("an archive was overwritten in the middle", "f.a(g.o at 0x|BadHeader (4)", lambda: [start(body=CALL_F), broken(ar("f.a", "rcs", asm("f.o", F), asm("g.o", "nop\n")))]),
     mistake("a member of a whole archive is a text", "f.a|note.txt|text", lambda: [start(body=CALL_F), "--whole-archive", ar("f.a", "rcs", asm("f.o", F), text("note.txt", PAGE))]),
     mistake("an object is empty", "a.o|empty", lambda: [text("a.o", "")]),
     mistake("an object was cut", "a.o|section header table|end of", lambda: [part(start("a.o"))]),
@@ -274,6 +279,7 @@ MISTAKES = [
     mistake("an option isn't known", "--gc-section", lambda: [start(), "--gc-section"]),
     mistake("an option lacks its value", "-o|MissingValue (3)", lambda: [start(), "-o"]),
     mistake("a group has no end", "GroupNesting (5)|--end-group", lambda: [start(), "--start-group", ar("libf.a", "rcs", asm("f.o", F))]),
+    mistake("a group has no beginning", "word 2 --end-group|--start-group", lambda: [start(), ar("libf.a", "rcs", asm("f.o", F)), "--end-group"]),
 ]
 
 
