@@ -1,0 +1,159 @@
+-- The field of a relocation is right by a link's parts exactly where it is right.
+use Rattle.std.proofs.Common.{◌≡◌, ℕ, ◌⊎◌, inl, inr, Bool, true, List, Option, None, Some, refl, sym, subst, ◌∙◌}
+use Rattle.std.specs.Prelude.{◌↔◌, All, Any, IsSomeAnd, find, is_some, not}
+use Rattle.std.proofs.lemmas.List.Elements.{All-weaker}
+use Rattle.std.proofs.lemmas.Option.{same_Some}
+use Rattle.elf_model.specs.Link.Placement as placement
+use Rattle.elf_model.specs.Link.Placement.{AreApart, Covers}
+use Rattle.elf_model.specs.Link.Relocation.{IsMismatch, Kind, Relocation, relocations}
+use Rattle.elf_model.specs.Link.Slots.{slot_kind_of}
+use Rattle.elf_model.specs.declared.link_map.SlotKind.{SlotKind}
+use Rattle.elf_model.specs.declared.link_map.SlotKind.TheVariants as slot
+use Rattle.elf_model.specs.declared.link_map.DropLine.{DropLine}
+use Rattle.elf_model.specs.declared.thing.Thing.{Thing}
+use Rattle.judge_model.specs.Certificates.{is_left_out}
+use Rattle.judge_model.specs.Fields as fields
+use Rattle.judge_model.specs.Fields.{HasSlotAt, HoldsField, HoldsPlain, HoldsValue, IsFieldRight, IsSlot, kind_of, slot_thing}
+use Rattle.judge_model.specs.Links.{ForeignLink, is_in_image_too, objects_of, relocations_of, sections_of}
+use Rattle.judge_model.specs.Means as means
+use Rattle.judge_model.specs.Placed.{things_of}
+use Rattle.judge_model.specs.Runs.{IsBetween}
+use Rattle.field_judge.specs.Given.{HasSlotIn, HoldsPlainIn, HoldsValueIn, IsRightIn, slot_value}
+use Rattle.memory_judge.specs.Slots.{IsClear, IsSlotAmong}
+use Rattle.link_fields.proofs.Lists.{apart_from, never_in, passing}
+use Rattle.link_fields.specs.Parts.{AreTaken, IsFieldRightIn, IsFieldRightUnlessOut, given, has_frames, meant, parts_of}
+
+module _ (l : ForeignLink) (taken : List Thing) (are : AreTaken l taken) where
+  -- slots
+  slot_of : (at v : ℕ) → IsSlotAmong l.image taken at v → IsSlot l at v
+  slot_of at v s = record {
+    aligned = s.aligned;
+    in_file = s.in_file;
+    apart = apart_from (slot_thing at) (things_of l) (λ a here some. never_in (slot_thing at) taken clear a here ((are.taken_is a).1 (inl some)));
+    outside = λ p q a between here. never_in (slot_thing at) taken clear a here ((are.taken_is a).1 (inr (p, q, between)));
+    holds = s.holds;
+  }
+    where
+      clear : All (AreApart (slot_thing at)) taken
+      clear = All-weaker (IsClear at) (AreApart (slot_thing at)) (λ t c. c.apart) taken s.apart
+
+  slot_among : (at v : ℕ) → IsSlot l at v → IsSlotAmong l.image taken at v
+  slot_among at v s = record {
+    aligned = s.aligned;
+    in_file = s.in_file;
+    apart =
+        All-weaker (AreApart (slot_thing at)) (IsClear at) (λ t h. record { apart = h }) taken
+        (apart_from (slot_thing at) taken (λ a here some. by a here ((are.taken_is a).0 some)));
+    holds = s.holds;
+  }
+    where
+      by : (a : ℕ) → Covers (slot_thing at) a → Any (λ t. Covers t a) (things_of l) ⊎ ((p : placement.Placed) × (q : placement.Placed) × IsBetween (sections_of l) p q a) → ⊥
+      by a here (inl some) = never_in (slot_thing at) (things_of l) s.apart a here some
+      by a here (inr gap) = s.outside gap.0 gap.1 a gap.2 here
+
+  module _ (r : Relocation) where
+    meant_is : means.meant l r ≡ meant (parts_of l) (has_frames r.name) r.symbol
+    unfolding means.meant
+    meant_is = refl
+
+    value_of : (k : Kind) (v at : ℕ) → HoldsValueIn l.image (given (parts_of l) r) k v at → HoldsValue l r k v at
+    value_of k v at h = record { fits = h.fits; holds = h.holds }
+
+    value_in : (k : Kind) (v at : ℕ) → HoldsValue l r k v at → HoldsValueIn l.image (given (parts_of l) r) k v at
+    value_in k v at h = record { fits = h.fits; holds = h.holds }
+
+    slot_held :
+        (k : Kind) (asked : SlotKind) (v at : ℕ) → IsSlotAmong l.image taken at (slot_value l.image asked v) → IsSlot l at (fields.slot_value l asked v)
+    slot_held k slot.Value v at s = slot_of at _ s
+    slot_held k slot.Thread v at s = slot_of at _ s
+
+    slot_back :
+        (k : Kind) (asked : SlotKind) (v at : ℕ) → IsSlot l at (fields.slot_value l asked v) → IsSlotAmong l.image taken at (slot_value l.image asked v)
+    slot_back k slot.Value v at s = slot_among at _ s
+    slot_back k slot.Thread v at s = slot_among at _ s
+
+    -- a relocation of a kind has its slot
+    has_at :
+        (k : Kind) (asked : SlotKind) (at : ℕ) → kind_of r ≡ Some k → slot_kind_of k.formula ≡ Some asked →
+        HasSlotIn l.image taken (given (parts_of l) r) k asked at → HasSlotAt l r at
+    has_at k asked at kind_is asks h = record {
+      kind = k;
+      kind_is = kind_is;
+      asked = asked;
+      asks = asks;
+      value = h.value;
+      means = meant_is ∙ h.means;
+      held = value_of k h.value at h.held;
+      slot = slot_held k asked h.value at h.slot_is;
+    }
+
+    has_in :
+        (k : Kind) (asked : SlotKind) (at : ℕ) → kind_of r ≡ Some k → slot_kind_of k.formula ≡ Some asked →
+        HasSlotAt l r at → HasSlotIn l.image taken (given (parts_of l) r) k asked at
+    has_in k asked at kind_is asks h =
+        let kind : h.kind ≡ k = same_Some h.kind k (sym h.kind_is ∙ kind_is) in
+        let same : h.asked ≡ asked =
+        same_Some h.asked asked (sym h.asks ∙ (subst (λ (j : Kind). slot_kind_of j.formula ≡ Some asked) (sym kind) asks)) in
+        record {
+          value = h.value;
+          means = sym meant_is ∙ h.means;
+          held = value_in k h.value at (subst (λ (j : Kind). HoldsValue l r j h.value at) kind h.held);
+          slot_is = slot_back k asked h.value at (subst (λ (s : SlotKind). IsSlot l at (fields.slot_value l s h.value)) same h.slot);
+        }
+
+    plain_of :
+        (k : Kind) (o : Option SlotKind) → kind_of r ≡ Some k → slot_kind_of k.formula ≡ o →
+        HoldsPlainIn l.image taken (given (parts_of l) r) k o → HoldsPlain l r k o
+    plain_of k None kind_is asks h =
+        subst (λ (m : Option ℕ). IsSomeAnd m (λ v. HoldsValue l r k v 0)) (sym meant_is)
+        (held (meant (parts_of l) (has_frames r.name) r.symbol) h)
+      where
+        held : (m : Option ℕ) → IsSomeAnd m (λ v. HoldsValueIn l.image (given (parts_of l) r) k v 0) → IsSomeAnd m (λ v. HoldsValue l r k v 0)
+        held None never = never
+        held (Some v) told = value_of k v 0 told
+    plain_of k (Some asked) kind_is asks (at, h) = (at, has_at k asked at kind_is asks h)
+
+    plain_in :
+        (k : Kind) (o : Option SlotKind) → kind_of r ≡ Some k → slot_kind_of k.formula ≡ o →
+        HoldsPlain l r k o → HoldsPlainIn l.image taken (given (parts_of l) r) k o
+    plain_in k None kind_is asks h =
+        held (meant (parts_of l) (has_frames r.name) r.symbol)
+        (subst (λ (m : Option ℕ). IsSomeAnd m (λ v. HoldsValue l r k v 0)) meant_is h)
+      where
+        held : (m : Option ℕ) → IsSomeAnd m (λ v. HoldsValue l r k v 0) → IsSomeAnd m (λ v. HoldsValueIn l.image (given (parts_of l) r) k v 0)
+        held None never = never
+        held (Some v) told = value_in k v 0 told
+    plain_in k (Some asked) kind_is asks (at, h) = (at, has_in k asked at kind_is asks h)
+
+    pub right_of : IsFieldRightIn (parts_of l) taken r → IsFieldRight l r
+    right_of h = by (kind_of r) refl h
+      where
+        by : (o : Option Kind) → kind_of r ≡ o → IsSomeAnd o (IsRightIn l.image taken (given (parts_of l) r)) → IsSomeAnd o (HoldsField l r)
+        by None is never = never
+        by (Some k) is told = (told.0, told.1, plain_of k (slot_kind_of k.formula) is refl told.2)
+
+    pub right_in : IsFieldRight l r → IsFieldRightIn (parts_of l) taken r
+    right_in h = by (kind_of r) refl h
+      where
+        by : (o : Option Kind) → kind_of r ≡ o → IsSomeAnd o (HoldsField l r) → IsSomeAnd o (IsRightIn l.image taken (given (parts_of l) r))
+        by None is never = never
+        by (Some k) is told = (told.0, told.1, plain_in k (slot_kind_of k.formula) is refl told.2)
+
+  -- all of them, but for those of sections that are left out
+  pub all_right :
+      (drops : List DropLine) → l.certificate.drops ≡ drops →
+      All (IsFieldRightUnlessOut (parts_of l) taken drops) (relocations (objects_of l)) ↔ All (IsFieldRight l) (relocations_of l)
+  all_right drops same = (
+    λ all.
+        (passing (IsFieldRight l) (is_in_image_too l) (relocations (objects_of l))).1
+        (All-weaker (IsFieldRightUnlessOut (parts_of l) taken drops) (λ r. is_in_image_too l r ≡ true → IsFieldRight l r)
+        (λ r h there. right_of r (h.right (subst (λ (ds : List DropLine). not (is_left_out ds r.object r.section) ≡ true) same there)))
+        (relocations (objects_of l)) all),
+    λ all.
+        All-weaker (λ r. is_in_image_too l r ≡ true → IsFieldRight l r) (IsFieldRightUnlessOut (parts_of l) taken drops)
+        (λ r h. record {
+          right = λ there.
+              right_in r (h (subst (λ (ds : List DropLine). not (is_left_out ds r.object r.section) ≡ true) (sym same) there));
+        })
+        (relocations (objects_of l)) ((passing (IsFieldRight l) (is_in_image_too l) (relocations (objects_of l))).0 all),
+  )

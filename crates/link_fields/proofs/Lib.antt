@@ -1,0 +1,5 @@
+pub mod BesideRelocations
+pub mod ForeignFields
+pub mod Lists
+pub mod OwnRelocations
+pub mod Rows

@@ -1,0 +1,20 @@
+//! What the symbols of a link mean that another linker made, by a certificate of where its parts are, and whether the fields of
+//! its relocations hold that (docs/DEFINITIONS.md).
+//!
+//! Begin with `LinkParts`, the parts of a link without a script. `are_fields_right` decides F5, given where memory is taken, and
+//! `are_rests_right` F7, where each section lies whole in a segment as F3 asks. A field's own bytes tell where its slot is.
+//! Code that linkers rewrite, merged strings and edited frames have no fields here, as the definitions ask that nothing is edited.
+#![tactic(auto)]
+
+mod addresses;
+mod linker_values;
+mod meanings;
+mod own_rests;
+mod parts;
+mod relocations;
+
+pub use addresses::Addresses;
+pub use meanings::{Meant, symbol_meant};
+pub use own_rests::are_rests_right;
+pub use parts::LinkParts;
+pub use relocations::are_fields_right;

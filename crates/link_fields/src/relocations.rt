@@ -1,0 +1,203 @@
+//! Whether the fields of relocations are right, object by object.
+ghost use Rattle.std.specs.Prelude.{◌≡◌, ◌↔◌, ◌%◌, ◌^◌, [], All, IsTrue, unwrap_or};
+ghost use Rattle.elf_model.specs.Inputs.ObjectFile as object_file;
+ghost use Rattle.elf_model.specs.Link.Relocation.{relocations, relocations_from, symbol_at};
+ghost use Rattle.check_link.specs.Views.{symbol_view};
+ghost use Rattle.check_load.specs.KeptRelocations.{relocation_at};
+ghost use Rattle.check_load.specs.Views.{loaded_view};
+ghost use Rattle.field_judge.specs.Given.{IsGiven, pointer_of};
+ghost use Rattle.judge_model.specs.Certificates.{is_left_out};
+ghost use Rattle.link_fields.specs.Parts as words;
+ghost use Rattle.judge_model.specs.Links.{ForeignLink};
+ghost use Rattle.judge_model.specs.RightForeign.{Holds};
+ghost use Rattle.judge_model.specs.declared.judgement.Requirement.TheVariants as requirement;
+ghost use Rattle.link_fields.specs.Parts.{AreTaken, IsFieldRightIn, IsFieldRightUnlessOut, IsMeant, given, parts_of};
+
+use crate::meanings::{Meant, symbol_meant};
+use crate::parts::LinkParts;
+use check_link::SymbolOf;
+use check_load::{KeptRelocation, Loaded};
+use elf_model::{DropLine, Thing};
+use elf_read::ObjectFile;
+use field_judge::{Asked, foreign_kind, is_right, thread_pointer};
+
+/// Symbol `j` of object `number`; the null symbol where there is no such symbol.
+fn symbol_of<'a>(loaded: &Loaded<'a>, number: u64, j: usize) -> SymbolOf<'a>
+    ensures { symbol_view result ≡ symbol_at number (loaded_view loaded.now) j }
+{
+    let entry = loaded.object.symbol(j);
+    SymbolOf {
+        object: number,
+        number: j as u64,
+        name: loaded.object.symbol_name(j),
+        entry,
+        dropped: loaded.is_dropped(entry.st_shndx as usize),
+    }
+}
+
+/// Whether a section has frames, by its name.
+fn has_frames(object: &ObjectFile<'_>, section: usize) -> bool
+    ensures { result ≡ words.has_frames (unwrap_or (object_file.section_name object.now section) []) }
+{
+    match object.section_name(section) {
+        Some(name) => name == b".eh_frame".as_slice(),
+        None => false,
+    }
+}
+
+/// What symbol `j` of object `number` means to relocations of a section.
+fn meant_at<'a>(
+    parts: &LinkParts<'_, '_, 'a>,
+    number: u64,
+    loaded: &Loaded<'a>,
+    section: u32,
+    j: u32,
+) -> Meant
+    ensures { IsMeant parts.now
+        (words.has_frames (unwrap_or (object_file.section_name loaded.now.object section) []))
+        (symbol_at number (loaded_view loaded.now) j) result }
+{
+    let frames = has_frames(&loaded.object, section as usize);
+    let symbol = symbol_of(loaded, number, j as usize);
+    symbol_meant(parts, frames, &symbol)
+}
+
+/// What a relocation of object `number` asks of its field, given the thread pointer.
+fn asked_of<'a>(
+    parts: &LinkParts<'_, '_, 'a>,
+    number: u64,
+    loaded: &Loaded<'a>,
+    relocation: &KeptRelocation,
+    thread_pointer: u64,
+) -> Asked
+    requires { thread_pointer ≡ pointer_of parts.now.image % 2 ^ 64 }
+    ensures { IsGiven parts.now.image result
+        (given parts.now (relocation_at number (loaded_view loaded.now) relocation.now)) }
+{
+    let entry = relocation.entry;
+    let found = meant_at(parts, number, loaded, relocation.section, entry.symbol());
+    Asked {
+        value: found.value,
+        addend: entry.r_addend,
+        at: address_or_zero(parts, number, relocation.section as u64),
+        offset: entry.r_offset,
+        size: found.size,
+        got: parts.got,
+        thread: found.thread,
+        thread_pointer,
+    }
+}
+
+/// The address of a section, 0 where it has none.
+fn address_or_zero(parts: &LinkParts<'_, '_, '_>, object: u64, section: u64) -> u64
+    ensures { result ≡ unwrap_or (words.address_of parts.now.placed object section) 0 }
+{
+    match parts.addresses.address(object, section) {
+        Some(at) => at,
+        None => 0,
+    }
+}
+
+/// Whether the field of a relocation of object `number` is right, among things that take up memory.
+fn is_field_right<'a>(
+    parts: &LinkParts<'_, '_, 'a>,
+    taken: &[Thing],
+    number: u64,
+    loaded: &Loaded<'a>,
+    relocation: &KeptRelocation,
+    thread_pointer: u64,
+) -> bool
+    requires { thread_pointer ≡ pointer_of parts.now.image % 2 ^ 64 }
+    ensures { IsTrue result ↔ IsFieldRightIn parts.now taken.now
+        (relocation_at number (loaded_view loaded.now) relocation.now) }
+{
+    match foreign_kind(relocation.entry.kind()) {
+        Some(kind) => {
+            let asked = asked_of(parts, number, loaded, relocation, thread_pointer);
+            is_right(parts.image, taken, &asked, &kind)
+        }
+        None => false,
+    }
+}
+
+/// Whether a section is left out.
+pub fn is_out(drops: &[DropLine], object: u64, section: u64) -> bool
+    ensures { result ≡ is_left_out drops.now object section }
+{
+    drops
+        .iter()
+        .any(|line| line.object == object && line.section == section)
+}
+
+/// Whether the field of a relocation is right, or its section is left out.
+fn is_right_unless_out<'a>(
+    parts: &LinkParts<'_, '_, 'a>,
+    taken: &[Thing],
+    drops: &[DropLine],
+    number: u64,
+    loaded: &Loaded<'a>,
+    relocation: &KeptRelocation,
+    thread_pointer: u64,
+) -> bool
+    requires { thread_pointer ≡ pointer_of parts.now.image % 2 ^ 64 }
+    ensures { IsTrue result ↔ IsFieldRightUnlessOut parts.now taken.now drops.now
+        (relocation_at number (loaded_view loaded.now) relocation.now) }
+{
+    if is_out(drops, number, relocation.section as u64) {
+        return true;
+    }
+    is_field_right(parts, taken, number, loaded, relocation, thread_pointer)
+}
+
+/// Whether the fields of the relocations of object `number` are right, but for those of sections that are left out.
+fn are_own_right<'a>(
+    parts: &LinkParts<'_, '_, 'a>,
+    taken: &[Thing],
+    drops: &[DropLine],
+    number: u64,
+    loaded: &Loaded<'a>,
+    thread_pointer: u64,
+) -> bool
+    requires { thread_pointer ≡ pointer_of parts.now.image % 2 ^ 64 }
+    ensures { IsTrue result ↔ All (IsFieldRightUnlessOut parts.now taken.now drops.now)
+        (relocations_from number (loaded_view loaded.now)) }
+{
+    for relocation in loaded.relocations() {
+        if !is_right_unless_out(
+            parts,
+            taken,
+            drops,
+            number,
+            loaded,
+            &relocation,
+            thread_pointer,
+        ) {
+            return false;
+        }
+    }
+    true
+}
+
+/// Whether the fields of all relocations are right, but for those of sections that are left out.
+fn are_all_right(parts: &LinkParts<'_, '_, '_>, taken: &[Thing], drops: &[DropLine]) -> bool
+    ensures { IsTrue result ↔ All (IsFieldRightUnlessOut parts.now taken.now drops.now)
+        (relocations parts.now.objects) }
+{
+    let objects = parts.names.objects();
+    let pointer = thread_pointer(parts.image);
+    for k in 0..objects.len() {
+        if !are_own_right(parts, taken, drops, k as u64, &objects[k], pointer) {
+            return false;
+        }
+    }
+    true
+}
+
+/// Whether the field of each relocation of a link is right, given its parts, the lines of the sections that are left out, and
+/// where memory is taken: by headers, notes, sections and common blocks, and in the gaps of runs.
+pub fn are_fields_right(parts: &LinkParts<'_, '_, '_>, taken: &[Thing], drops: &[DropLine]) -> bool
+    ensures { (l : ForeignLink) → parts_of l ≡ parts.now → l.certificate.drops ≡ drops.now
+        → AreTaken l taken.now → IsTrue result ↔ Holds requirement.F5 l }
+{
+    are_all_right(parts, taken, drops)
+}
