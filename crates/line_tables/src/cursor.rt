@@ -3,7 +3,7 @@ ghost use Rattle.std.specs.Prelude.{◌≡◌, ◌↔◌, ◌+◌, ◌<◌, ◌�
 
 use byteview::View;
 
-/// How many bytes of a LEB128 number may tell of one of 64 bits.
+/// How many bytes a LEB128 number of 64 bits has at most.
 const MOST: u32 = 10;
 
 /// Bytes of a line table, and where the next one that is read is.

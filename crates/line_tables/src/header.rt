@@ -8,7 +8,7 @@ const WIDE: u32 = 0xffff_ffff;
 
 const RESERVED: u32 = 0xffff_fff0;
 
-/// Where a unit is: its bytes behind its length.
+/// Where a unit is: from behind its length on.
 #[derive(Clone, Copy)]
 pub struct Extent {
     pub is_wide: bool,

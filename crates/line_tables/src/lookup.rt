@@ -4,7 +4,7 @@ ghost use Rattle.line_tables.specs.Texts.{IsLineOf, IsTextOf};
 
 use crate::forms::Value;
 use crate::header::{Extent, Unit};
-use crate::rows::row_at;
+use crate::rows::{Row, row_at};
 use crate::section::{Lines, Spot};
 use byteview::View;
 use elf_read::ObjectFile;
@@ -31,13 +31,17 @@ fn text<'a>(lines: &Lines<'_, 'a>, name: Value) -> Option<&'a [u8]>
     lines.text(spot)
 }
 
-/// The source line of a place, where a unit has it.
-fn line_in<'a>(lines: &Lines<'_, 'a>, extent: Extent, place: Spot) -> Option<SourceLine<'a>>
-    ensures { IfSome result (IsLineOf lines.now.object.now) }
-{
-    let bytes = View::new(lines.bytes).part(0, extent.end);
+/// The row of a unit that covers a place, and the unit's header. Its bytes end where the unit does.
+fn row_in(lines: &Lines<'_, '_>, bytes: &[u8], extent: Extent, place: Spot) -> Option<(Unit, Row)> {
     let unit = Unit::read(bytes, extent)?;
     let row = row_at(lines, bytes, &unit, place)?;
+    Some((unit, row))
+}
+
+/// The line that a row of a unit says.
+fn line_of<'a>(lines: &Lines<'_, 'a>, bytes: &[u8], unit: &Unit, row: Row) -> Option<SourceLine<'a>>
+    ensures { IfSome result (IsLineOf lines.now.object.now) }
+{
     if row.line == 0 {
         return None;
     }
@@ -67,8 +71,10 @@ pub fn source_line<'a>(
     let mut at = 0;
     'units: while at < lines.bytes.len() {
         let extent = Extent::at(lines.bytes, at)?;
-        if let Some(found) = line_in(&lines, extent, place) {
-            return Some(found);
+        let bytes = View::new(lines.bytes).part(0, extent.end);
+        // Names are looked up once, whatever becomes of it: a text of any length may be named again and again.
+        if let Some((unit, row)) = row_in(&lines, bytes, extent, place) {
+            return line_of(&lines, bytes, &unit, row);
         }
         at = extent.end;
     }

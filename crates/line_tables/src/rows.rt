@@ -4,7 +4,7 @@ use crate::header::Unit;
 use crate::program::{Instruction, next_instruction};
 use crate::section::{Lines, Spot};
 
-/// What is known at a place: the number of its file, and its line. A place has none before a sequence has an address.
+/// A row: a place, which is None before the sequence has an address, the number of its file, and its line.
 #[derive(Clone, Copy)]
 pub struct Row {
     at: Option<Spot>,
@@ -20,7 +20,7 @@ const START: Row = Row {
 };
 
 impl Row {
-    /// The row so far behind it, where numbers are added to its address and its line.
+    /// This row with numbers added to its address and its line.
     fn advanced(self, address: u64, line: i64) -> Row {
         let at = self.at.map(|at| Spot {
             section: at.section,
@@ -53,7 +53,7 @@ struct Machine {
 }
 
 impl Machine {
-    /// Appends a row; the last one where it covers the place.
+    /// Appends a row, and answers the one before it where that covers the place.
     fn append(&mut self, place: Spot) -> Option<Row> {
         let last = self.last;
         self.last = self.now;
@@ -64,7 +64,7 @@ impl Machine {
         }
     }
 
-    /// Runs an instruction; the last row where it is known to cover the place.
+    /// Runs an instruction, and answers the last row where it is now known to cover the place.
     fn run(&mut self, lines: &Lines<'_, '_>, instruction: Instruction, place: Spot) -> Option<Row> {
         match instruction {
             Instruction::Address(address) => self.now = self.now.advanced(address, 0),
