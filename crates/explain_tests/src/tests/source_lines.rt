@@ -17,35 +17,49 @@ const LINES: Section<'static> = Section {
 /// The address at the beginning of the line table's sequence, that of `_start`.
 const ADDRESS: Relocation = Relocation(2, 48, R_64, 1, 0);
 
-/// Relocations of an object's `.text`, and what is said of them.
-static ROWS: [(&[Relocation], &str); 3] = [
+/// Files that `a.o` links, and what is said of them.
+static ROWS: [(&[File], &str); 3] = [
     (
-        &[
-            ADDRESS,
-            Relocation(1, 0, R_PC32, 2, 0),
-            Relocation(1, 4, R_PC32, 2, 0),
-        ],
+        &[File::Object(
+            "a.o",
+            &[TEXT, LINES],
+            &[START, NO_F],
+            &[
+                ADDRESS,
+                Relocation(1, 0, R_PC32, 2, 0),
+                Relocation(1, 4, R_PC32, 2, 0),
+            ],
+        )],
         "a.o: .text+0x0 in _start (a.c:3): f is not defined (relocation 0 of section 5, R_X86_64_PC32, to symbol 2)\n\
          a.o: .text+0x4 in _start (inc/h\\x0a.h:7): f is not defined (relocation 1 of section 5, R_X86_64_PC32, to symbol \
          2)\n",
     ),
     (
-        &[ADDRESS, Relocation(1, 8, 14, 1, 0)],
+        &[File::Object(
+            "a.o",
+            &[TEXT, LINES],
+            &[START, NO_F],
+            &[ADDRESS, Relocation(1, 8, 14, 1, 0)],
+        )],
         "a.o: .text+0x8 in _start (a.c:4): the value 0x401000 for _start does not fit the field at 0x401008, which takes \
          -0x80 to 0xff (relocation 0 of section 5, R_X86_64_8, to symbol 1 of .text)\n",
     ),
     // The line table doesn't say which section it is of.
     (
-        &[Relocation(1, 4, R_PC32, 2, 0)],
+        &[File::Object(
+            "a.o",
+            &[TEXT, LINES],
+            &[START, NO_F],
+            &[Relocation(1, 4, R_PC32, 2, 0)],
+        )],
         "a.o: .text+0x4 in _start: f is not defined (relocation 0 of section 5, R_X86_64_PC32, to symbol 2)\n",
     ),
 ];
 
 #[test]
 fn source_lines_are_told(rt: HostRuntime) -> Result<(), Fail> {
-    for (relocations, wanted) in &ROWS {
-        let file = File::Object("a.o", &[TEXT, LINES], &[START, NO_F], *relocations);
-        let files = files_of(rt.alloc(), &[file])?;
+    for (files, wanted) in &ROWS {
+        let files = files_of(rt.alloc(), files)?;
         let text = lines_of(rt.alloc(), &files, "a.o", 9)?;
         assert_eq!(rt; text.as_str(), *wanted);
     }
