@@ -1,4 +1,5 @@
 //! The tests, and what they are made of.
+mod fields;
 mod fillers;
 mod images;
 mod thread_blocks;

@@ -131,6 +131,16 @@ pub fn image_of(
     header: &FileHeader,
     segments: &[ProgramHeader],
 ) -> Result<Vec<u8>, AllocError> {
+    image_with(alloc, header, segments, b"sixteen of code.")
+}
+
+/// An image with these sixteen bytes behind its headers.
+pub fn image_with(
+    alloc: Global,
+    header: &FileHeader,
+    segments: &[ProgramHeader],
+    bytes: &[u8; 16],
+) -> Result<Vec<u8>, AllocError> {
     let mut image = Vec::new(alloc);
     let mut record = [0; 64];
     header.write_to(&mut record);
@@ -140,7 +150,7 @@ pub fn image_of(
         segment.write_to(&mut record);
         image.extend_from_slice(&record)?;
     }
-    image.extend_from_slice(b"sixteen of code.")?;
+    image.extend_from_slice(bytes)?;
     Ok(image)
 }
 
