@@ -27,15 +27,15 @@ that one, in place of the proved one.
                   10 MB
     debug-name    100,000 relocations of debug data that name one such symbol
     debug-gaps    2,000 sections of debug data of one byte, each aligned to 2^21
-    undefined     20,000 GLOBAL symbols without a definition, whose names are ends of one text, and a relocation to each
     one-undefined 100,000 relocations that name one GLOBAL symbol without a definition, whose name has 1 MB
     lines         20 undefined names in code of which the last unit of a line table tells the line, in the last of 400,000 files;
                   before it are 20,000 units and one of 200,000 sequences, which tell of other code
 
-Two more grow faster than their bytes, for reasons that docs/BENCHMARKS.md gives. They run only where they are named,
+Three more grow faster than their bytes, for reasons that docs/BENCHMARKS.md gives. They run only where they are named,
 are small, and have no limit:
 
     weak-ends     5,000 weak symbols without a definition whose names are ends of one text of 500 kB
+    undefined     the same with GLOBAL symbols, and a relocation to each
     products      400 directories, none of them there, and as many -l of names that only a last one has
 
 All but the maps and `segments` are linked with a map, and the link is checked; `undefined`, `one-undefined` and `lines` are refused.
@@ -491,7 +491,6 @@ INPUTS = {
     "long-name": (long_name, 100_000),
     "debug-name": (debug_name, 100_000),
     "debug-gaps": (debug_gaps, 2_000),
-    "undefined": (undefined_ends, 20_000),
     "one-undefined": (one_undefined, 100_000),
     "lines": (line_tables, 20_000),
 }
@@ -501,6 +500,7 @@ WITHOUT_TABLES = ("map-objects", "map-slots", "map-symbols", "segments")
 
 NOT_LINEAR = {
     "weak-ends": (weak_ends, 5_000),
+    "undefined": (undefined_ends, 5_000),
     "products": (products, 400),
 }
 
