@@ -1,5 +1,5 @@
 -- Tests and counts over the numbers up to one, with one more number.
-use Rattle.std.proofs.Common.{◌≡◌, ◌+◌, ◌<◌, ◌∙◌, ◌++◌, ◌∷◌, ◌||◌, [], ℕ, Bool, true, false, cond, List, ap, arith, get_or, length, refl, sym, take}
+use Rattle.std.proofs.Common.{◌≡◌, ◌≤◌, ◌+◌, ◌-◌, ◌<◌, ◌∙◌, ◌++◌, ◌∷◌, ◌||◌, [], ℕ, Bool, true, false, cond, List, ap, arith, get_or, length, refl, subst, suc, sym, take, zero}
 use Rattle.std.specs.Prelude.{count_by, sum_by}
 use Rattle.std.specs.List.{list_any, range_with_len}
 use Rattle.std.proofs.lemmas.List.Folds.{list_any-append, list_any_at}
@@ -27,9 +27,27 @@ pub none_next : {X : Type 0} (p : X → Bool) (xs : List X) (i : ℕ) (d : X) �
 none_next p xs i d within none next =
     any_take p xs i d within ∙ (ap (λ (b : Bool). b || p (get_or xs i d)) none ∙ next)
 
+-- a sum over the numbers up to one has one more, and is no less than one over fewer
+pub sum_more : (f : ℕ → ℕ) (n : ℕ) → sum_by f (range_with_len 0 (n + 1)) ≡ sum_by f (range_with_len 0 n) + f n
+sum_more f n =
+    ap (sum_by f) (range_more n)
+    ∙ (sum_by-append f (range_with_len 0 n) (n ∷ [])
+    ∙ ap (λ (k : ℕ). sum_by f (range_with_len 0 n) + k) (sum_by-cons f n [] ∙ add-zero (f n)))
+
+pub sum_further : (f : ℕ → ℕ) (n d : ℕ) → sum_by f (range_with_len 0 n) ≤ sum_by f (range_with_len 0 (d + n))
+sum_further f n zero = omega arith
+sum_further f n (suc d) =
+    let further = sum_further f n d in
+    let more = sum_more f (d + n) in
+    subst (λ (k : ℕ). sum_by f (range_with_len 0 n) ≤ sum_by f (range_with_len 0 k)) (add_one (d + n)) (omega (arith, further, more))
+  where
+    add_one : (k : ℕ) → k + 1 ≡ suc k
+    add_one k = omega arith
+
+pub sum_within : (f : ℕ → ℕ) (n m : ℕ) → n ≤ m → sum_by f (range_with_len 0 n) ≤ sum_by f (range_with_len 0 m)
+sum_within f n m low =
+    subst (λ (k : ℕ). sum_by f (range_with_len 0 n) ≤ sum_by f (range_with_len 0 k)) (omega (arith, low)) (sum_further f n (m - n))
+
 -- one more number is counted, or isn't
 pub count_more : (p : ℕ → Bool) (n : ℕ) → count_by p (range_with_len 0 (n + 1)) ≡ count_by p (range_with_len 0 n) + cond (p n) 1 0
-count_more p n =
-    ap (count_by p) (range_more n)
-    ∙ (sum_by-append (λ (k : ℕ). cond (p k) 1 0) (range_with_len 0 n) (n ∷ [])
-    ∙ ap (λ (k : ℕ). count_by p (range_with_len 0 n) + k) (sum_by-cons (λ (k : ℕ). cond (p k) 1 0) n [] ∙ add-zero (cond (p n) 1 0)))
+count_more p n = sum_more (λ (k : ℕ). cond (p k) 1 0) n

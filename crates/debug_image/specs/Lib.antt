@@ -10,6 +10,7 @@ pub mod KeptGroups
 pub mod KeptTables
 pub mod Layouts
 pub mod Lists
+pub mod LongNames
 pub mod MappedSections
 pub mod Marks
 pub mod ObjectSections

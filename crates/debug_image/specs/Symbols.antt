@@ -1,19 +1,20 @@
 -- The symbols of a debuggable image (System V gABI 4, "Symbol Table"): which there are, and what each says.
-use Rattle.std.specs.Prelude.{ℕ, ◌+◌, ◌-◌, ◌*◌, ◌%◌, ◌^◌, ◌==◌, ◌&&◌, ◌||◌, Bool, not, cond, List, Option, None, Some, codes, find, length, nat_eq, nat_lt, option_map}
+use Rattle.std.specs.Prelude.{ℕ, ◌+◌, ◌-◌, ◌*◌, ◌%◌, ◌^◌, ◌==◌, ◌&&◌, ◌||◌, Bool, not, cond, List, [], ◌∷◌, ◌++◌, Option, None, Some, codes, find, length, nat_eq, nat_lt, option_map}
 use Rattle.std.specs.List.{filter_map, slice_get, starts_with}
 use Rattle.std.specs.Option.{option_and_then, option_map_or}
 use Rattle.elf_model.specs.Link.Commons.{Block}
 use Rattle.elf_model.specs.Link.LinkerValues.{bound_value}
 use Rattle.elf_model.specs.Link.Meaning.{Common, Linker, Meaning, Symbol}
-use Rattle.elf_model.specs.Inputs.ObjectFile.{section, sections}
+use Rattle.elf_model.specs.Inputs.ObjectFile.{section, sections, symbols}
 use Rattle.elf_model.specs.Own.OwnLayout.{own_in_load_order, own_placed, own_where}
 use Rattle.elf_model.specs.Link.Loading.{LoadedObject}
 use Rattle.elf_model.specs.Link.Pieces.{Piece, is_thread_local, piece_of}
 use Rattle.elf_model.specs.Link.Placement.{is_of_section}
-use Rattle.elf_model.specs.Link.Resolution.{SymbolOf, all_symbols, binding, is_absolute, symbol_type}
+use Rattle.elf_model.specs.Link.Resolution.{SymbolOf, binding, is_absolute, symbol_type, symbols_from}
 use Rattle.elf_model.specs.Link.ThreadStorage.{thread_block}
 use Rattle.elf_model.specs.declared.constants.TheConstants.{SHN_ABS, STB_GLOBAL, STB_LOCAL, STT_FILE, STT_NOTYPE, STT_OBJECT, STT_SECTION}
 use Rattle.elf_model.specs.declared.records.Symbol as entry
+use Rattle.debug_image.specs.LongNames.{has_long_names}
 use Rattle.debug_image.specs.Sections.{Section, blocks_number, section_number}
 use Rattle.debug_image.specs.Tables.{Row}
 
@@ -86,8 +87,19 @@ is_wanted s =
 abbrev pub local_row : Laid → SymbolOf → Option Row
 local_row l s = cond (is_wanted s) (symbol_row l s) None
 
+-- those of an object, unless their names come to more bytes than the object has; and those of all objects
+abbrev pub own_rows : Laid → ℕ → LoadedObject → List Row
+own_rows l k o = filter_map (local_row l) (symbols_from k o 0 (symbols o.bytes))
+
+abbrev pub object_rows : Laid → ℕ → LoadedObject → List Row
+object_rows l k o = cond (has_long_names o) [] (own_rows l k o)
+
+abbrev pub rows_from : Laid → ℕ → List LoadedObject → List Row
+rows_from l k [] = []
+rows_from l k (o ∷ os) = object_rows l k o ++ rows_from l (k + 1) os
+
 abbrev pub local_rows : Laid → List Row
-local_rows l = filter_map (local_row l) (all_symbols l.objects)
+local_rows l = rows_from l 0 l.objects
 
 -- what a name means: a symbol as its object says it, but for a LOCAL one, which no name outside its object means; a common block is an OBJECT of its own section; a name of the linker is absolute
 abbrev pub block_entry : Block → entry.Symbol

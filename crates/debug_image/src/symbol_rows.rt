@@ -1,10 +1,8 @@
 //! The symbols of a debuggable image: which there are, and what each says.
 ghost use Rattle.std.specs.Prelude.{◌≡◌, ◌<◌, ◌++◌, IfOk, IfSome, OnOk, length, option_map};
-ghost use Rattle.std.specs.List.{filter_map};
 ghost use Rattle.std.specs.Option.{option_and_then};
-ghost use Rattle.elf_model.specs.Inputs.ObjectFile.{section, sections, symbols};
+ghost use Rattle.elf_model.specs.Inputs.ObjectFile.{section, sections};
 ghost use Rattle.elf_model.specs.Link.Pieces as pieces;
-ghost use Rattle.elf_model.specs.Link.Resolution.{symbols_from};
 ghost use Rattle.placing.specs.Views.{piece_view};
 ghost use Rattle.resolve.specs.Blocks.{block_view};
 ghost use Rattle.resolve.specs.Views.{meaning_view, meaning_views, symbol_view};
@@ -13,6 +11,7 @@ ghost use Rattle.debug_image.specs.Layouts.{IsLayout, laid_in};
 ghost use Rattle.debug_image.specs.Symbols as spec;
 ghost use Rattle.debug_image.specs.Views.{row_view, row_views};
 
+use crate::long_names::has_long_names;
 use crate::row::Row;
 use crate::section_numbers::SectionNumbers;
 use crate::sections::Section;
@@ -202,8 +201,7 @@ fn add_locals<'a>(
     requires { IsLayout layout.now }
     ensures { OnOk result (row_views rows.new.items
         ≡ row_views rows.old.items
-        ++ filter_map (spec.local_row (laid_in layout.now))
-        (symbols_from number (loaded_view loaded.now) 0 (symbols loaded.now.object))) }
+        ++ spec.own_rows (laid_in layout.now) number (loaded_view loaded.now)) }
 {
     let entries = loaded.object.symbols();
     for j in 0..entries.len() {
@@ -222,14 +220,32 @@ fn add_locals<'a>(
     Ok(())
 }
 
-/// The LOCAL symbols of all objects.
+/// Adds the LOCAL symbols of object `number`, unless their names come to more bytes than it has.
+fn add_object<'a>(
+    rows: &mut Vec<Row<'a>>,
+    layout: &Layout<'_, 'a>,
+    number: u64,
+    loaded: &LoadedObject<'a>,
+) -> Result<(), AllocError>
+    requires { IsLayout layout.now }
+    ensures { OnOk result (row_views rows.new.items
+        ≡ row_views rows.old.items
+        ++ spec.object_rows (laid_in layout.now) number (loaded_view loaded.now)) }
+{
+    if has_long_names(loaded) {
+        return Ok(());
+    }
+    add_locals(rows, layout, number, loaded)
+}
+
+/// The LOCAL symbols of all objects but those whose names come to more bytes than the object has.
 pub fn local_rows<'a>(alloc: Global, layout: &Layout<'_, 'a>) -> Result<Vec<Row<'a>>, AllocError>
     requires { IsLayout layout.now }
     ensures { IfOk result (λ v. row_views v.items ≡ spec.local_rows (laid_in layout.now)) }
 {
     let mut rows = Vec::new(alloc);
     for (k, loaded) in layout.objects.iter().enumerate() {
-        add_locals(&mut rows, layout, k as u64, loaded)?;
+        add_object(&mut rows, layout, k as u64, loaded)?;
     }
     Ok(rows)
 }

@@ -4,6 +4,7 @@ mod dropped_groups;
 mod found;
 mod kept_groups;
 mod left_data;
+mod long_names;
 mod names;
 mod rows;
 mod sections;

@@ -1,16 +1,19 @@
 -- The LOCAL symbols of an image for tools are its first ones.
-use Rattle.std.proofs.Common.{◌≡◌, ◌∙◌, ℕ, List, [], ◌∷◌, ap, length, refl, sym}
-use Rattle.std.specs.Prelude.{All, None, Option, Some, cond, false, true, ◌==◌, option_map}
+use Rattle.std.proofs.Common.{◌≡◌, ◌+◌, ◌∙◌, ℕ, List, [], ◌∷◌, ap, length, refl, sym}
+use Rattle.std.specs.Prelude.{All, Bool, None, Option, Some, cond, false, true, ◌==◌, option_map}
 use Rattle.std.specs.List.{cons_option, filter_map}
 use Rattle.std.specs.Option.{option_and_then}
 use Rattle.std.proofs.lemmas.Bool.{and_parts}
-use Rattle.std.proofs.lemmas.List.Elements.{All-cons, All-nil}
+use Rattle.std.proofs.lemmas.List.Elements.{All-append, All-cons, All-nil}
 use Rattle.std.proofs.lemmas.Option.{none-some, same_Some}
 use Rattle.elf_model.specs.Link.Meaning.{Common, Linker, Meaning, Symbol}
 use Rattle.elf_model.specs.Link.Pieces.{Piece}
-use Rattle.elf_model.specs.Link.Resolution.{SymbolOf, all_symbols, binding, is_absolute}
+use Rattle.elf_model.specs.Link.Resolution.{SymbolOf, binding, is_absolute, symbols_from}
+use Rattle.elf_model.specs.Inputs.ObjectFile.{symbols}
+use Rattle.elf_model.specs.Link.Loading.{LoadedObject}
 use Rattle.elf_model.specs.declared.constants.TheConstants.{STB_LOCAL}
-use Rattle.debug_image.specs.Symbols.{Laid, address_of, absolute_row, block_entry, is_wanted, linker_row, local_row, local_rows, meaning_row, meaning_rows, named_row, placed_row, row_at, row_in, symbol_piece, symbol_row}
+use Rattle.debug_image.specs.Symbols.{Laid, address_of, absolute_row, block_entry, is_wanted, linker_row, local_row, local_rows, object_rows, own_rows, rows_from, meaning_row, meaning_rows, named_row, placed_row, row_at, row_in, symbol_piece, symbol_row}
+use Rattle.debug_image.specs.LongNames.{has_long_names}
 use Rattle.debug_image.specs.Sections.{blocks_number}
 use Rattle.debug_image.specs.Tables.{Row}
 use Rattle.elf_model.specs.declared.records.Symbol as code
@@ -48,8 +51,20 @@ local_is l s r e =
     (λ t u v. ap (λ b. b == STB_LOCAL) (kept_binding l s r v) ∙ (and_parts (binding s.entry == STB_LOCAL) _ t).0)
     (λ t u v. absurd (none-some r v)) refl e
 
+-- what each LOCAL symbol's row is, all rows are
+pub all_local : (P : Row → Type 0) (l : Laid) → ((s : SymbolOf) (r : Row) → local_row l s ≡ Some r → P r) → All P (local_rows l)
+all_local P l given = from 0 l.objects
+  where
+    of : (k : ℕ) (o : LoadedObject) (b : Bool) → All P (cond b [] (own_rows l k o))
+    of k o true = All-nil P
+    of k o false = all_given P (local_row l) given (symbols_from k o 0 (symbols o.bytes))
+
+    from : (k : ℕ) (os : List LoadedObject) → All P (rows_from l k os)
+    from k [] = All-nil P
+    from k (o ∷ os) = All-append P (object_rows l k o) (rows_from l (k + 1) os) (of k o (has_long_names o)) (from (k + 1) os)
+
 pub locals_local : (l : Laid) → All (λ r. is_local r ≡ true) (local_rows l)
-locals_local l = all_given (λ r. is_local r ≡ true) (local_row l) (local_is l) (all_symbols l.objects)
+locals_local l = all_local (λ r. is_local r ≡ true) l (local_is l)
 
 named_is : (l : Laid) (s : SymbolOf) (r : Row) → named_row l s ≡ Some r → is_local r ≡ false
 named_is l s r e =

@@ -88,7 +88,7 @@ local_unnamed l s r e =
     both (λ b. cond b (symbol_row l s) None ≡ Some r → unnamed_row r ≡ r) (is_wanted s) (λ t u. kept_unnamed l s r u) (λ t u. absurd (none-some r u)) e
 
 pub locals_unnamed : (l : Laid) → All (λ r. unnamed_row r ≡ r) (local_rows l)
-locals_unnamed l = all_given (λ r. unnamed_row r ≡ r) (local_row l) (local_unnamed l) (all_symbols l.objects)
+locals_unnamed l = all_local (λ r. unnamed_row r ≡ r) l (local_unnamed l)
 
 block_unnamed : (l : Laid) (name : List ℕ) (e : code.Symbol) (k at : Option ℕ) (r : Row) → option_map (placed_row name e k) at ≡ Some r → unnamed_row r ≡ r
 block_unnamed l name e k None r is = absurd (none-some r is)

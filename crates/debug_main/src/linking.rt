@@ -1,5 +1,6 @@
 //! The link with an image for tools.
-ghost use Rattle.std.specs.Prelude.{◌≡◌, ◌≢◌, ◌≤◌, true, IfErr, IsErr, OnOk};
+ghost use Rattle.std.specs.Prelude.{◌≡◌, ◌≢◌, ◌≤◌, true, IfErr, IsErr, OnOk, cond};
+ghost use Rattle.debug_image.specs.LongNames.{long_named};
 ghost use Rattle.elf_model.specs.Inputs.Command.{command_of};
 ghost use Rattle.elf_model.specs.Inputs.Files.{files_of, words_of};
 ghost use Rattle.ld_main.specs.Program.{LinksRight, failure_status};
@@ -8,8 +9,8 @@ ghost use Rattle.debug_main.specs.Words.{IsStripped};
 
 use crate::debug_file::DebugFile;
 use crate::parts::{made, resolved_of};
-use crate::reports::{print_left, print_unrelocated};
-use debug_image::{Wanted, data_layout};
+use crate::reports::{print_left, print_long_named, print_unrelocated};
+use debug_image::{Wanted, data_layout, long_named};
 use elf_model::{InputFile, NameSeed, SectionRef};
 use ld_main::{
     Failure, Linkage, MapOf, Outputs, definitions, prepare_seeded, refused, write_outputs,
@@ -34,6 +35,17 @@ fn write_file<'a, 'b, R: Files + AllocGlobal + RandomSource>(
     Ok(file.into_left())
 }
 
+/// How many objects' LOCAL symbols aren't in an image for their long names; none where no LOCAL symbols are wanted.
+fn long_named_in(wanted: Wanted, linkage: &Linkage<'_>) -> u64
+    ensures { result ≡ cond wanted.locals (long_named linkage.now.objects) 0 }
+{
+    if wanted.locals {
+        long_named(linkage.loaded().objects())
+    } else {
+        0
+    }
+}
+
 /// Makes the debug data and tables of a link, and writes its outputs.
 fn write_link<'a, 'b, R: Files + AllocGlobal + RandomSource, E: Write>(
     rt: &R,
@@ -44,7 +56,8 @@ fn write_link<'a, 'b, R: Files + AllocGlobal + RandomSource, E: Write>(
     err: &mut E,
 ) -> Result<(), Failure<'a>>
     requires { linkage.now.plan.strip ≡ true }
-    ensures { IfErr result (λ f. failure_status f ≢ 2) }
+    ensures status { IfErr result (λ f. failure_status f ≢ 2) }
+    ensures quiet { IsErr result → err.new ≡ err.old }
 {
     let alloc = rt.alloc();
     let names = definitions(alloc, &*linkage)?;
@@ -56,6 +69,7 @@ fn write_link<'a, 'b, R: Files + AllocGlobal + RandomSource, E: Write>(
         left: Vec::new(alloc),
     };
     let left = write_file(rt, outputs, &*linkage, wanted, file)?;
+    let _ = print_long_named(err, long_named_in(wanted, &*linkage));
     let _ = print_left(err, parts.data.left);
     let _ = print_unrelocated(err, files, linkage.loaded().objects(), &left);
     Ok(())
@@ -75,6 +89,7 @@ pub fn link_files<'a, R: Files + AllocGlobal + RandomSource, E: Write>(
     ensures right { OnOk result (LinksRight (files_of files.now) (words_of words.now)) }
     ensures words_alone { IfErr result (λ f. failure_status f ≡ 2
         → IsErr (command_of (words_of words.now))) }
+    ensures quiet { IsErr result → err.new ≡ err.old }
 {
     let linkage = match prepare_seeded(rt.alloc(), files, words, seed) {
         Ok(linkage) => linkage,

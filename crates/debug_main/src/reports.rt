@@ -66,3 +66,15 @@ pub fn print_left<E: Write>(err: &mut E, left: LeftData) -> io::Result<()> {
     }
     err.write_all(b"\n")
 }
+
+/// Prints how many objects' LOCAL symbols are left out for their long names, in one line, and nothing where none are.
+pub fn print_long_named<E: Write>(err: &mut E, objects: u64) -> io::Result<()> {
+    if objects == 0 {
+        return Ok(());
+    }
+    writeln!(
+        err,
+        "ld: left out the LOCAL symbols of {}: their names come to more bytes than the object has",
+        Counted(objects, "object")
+    )
+}
