@@ -1,3 +1,4 @@
 pub mod NewFiles
 pub mod Program
+pub mod RefusalTexts
 pub mod Tasks

@@ -1,5 +1,5 @@
 -- The exit statuses of the program and its lines, and what they say.
-use Rattle.std.specs.Prelude.{◌≡◌, ◌↔◌, ◌⊎◌, ℕ, List, Option, None, Some, [], ◌∷◌, ◌++◌, Bool, true, false, Ok, codes}
+use Rattle.std.specs.Prelude.{◌≡◌, ◌↔◌, ◌⊎◌, ℕ, List, Option, None, Some, [], ◌∷◌, ◌++◌, Bool, true, false, Ok, codes, option_map}
 use Rattle.std.specs.Cow.{cow_str_bytes}
 use Rattle.std.specs.Fmt.{decimal}
 use Rattle.std.specs.Io.KnownBytes.{Appends}
@@ -14,6 +14,7 @@ use Rattle.file_io.specs.declared.file_ids.OutputPath.{OutputPath}
 use Rattle.image_write.specs.declared.sink.WriteFault.{WriteFault}
 use Rattle.image_write.specs.declared.sink.WriteFault.TheVariants as write_fault
 use Rattle.linker.specs.Refusals.{of_command}
+use Rattle.ld_main.specs.RefusalTexts.{refusal_line}
 use Rattle.ld_main.specs.declared.failure.Failure.{Failure}
 use Rattle.ld_main.specs.declared.failure.Failure.TheVariants as failure
 use Rattle.ld_main.specs.declared.outcome.Outcome.{Outcome}
@@ -49,6 +50,15 @@ abbrev pub unwritten_path : Failure → Option (List ℕ)
 unwritten_path (failure.CannotWrite path) = Some path.now
 unwritten_path _ = None
 
+-- the path that a failure says isn't read
+abbrev pub unread_path : Failure → Option (List ℕ)
+unread_path (failure.CannotRead path) = Some (cow_str_bytes path)
+unread_path _ = None
+
+-- a failure in reading at a path: for want of memory, or of the path
+abbrev pub IsUnread : List ℕ → Failure → Type 0
+IsUnread path f = (failure_status f ≡ 4) ⊎ (unread_path f ≡ Some path)
+
 -- the failure for a fault in writing at a path: for want of memory, or of the path
 abbrev pub IsUnwritten : List ℕ → WriteFault → Failure → Type 0
 IsUnwritten path write_fault.Memory f = failure_status f ≡ 4
@@ -71,9 +81,13 @@ abbrev pub path_line : List ℕ → List ℕ → List ℕ
 path_line what path = what ++ path ++ 10 ∷ []
 
 abbrev pub PrintsFailure : Failure → Option (List ℕ) → Option (List ℕ) → Type 0
-PrintsFailure (failure.Refused e s) old new = Unit {0}
+PrintsFailure (failure.Refused e s) old new = Appends old new (refusal_line e (option_map (λ v. v.items) s))
 PrintsFailure (failure.CannotRead path) old new = Appends old new (path_line (codes "ld: cannot read ") (cow_str_bytes path))
 PrintsFailure (failure.CannotWrite path) old new = Appends old new (path_line (codes "ld: cannot write ") path.now)
+
+-- the line of a failure with a status is printed
+abbrev pub TellsFailure : ℕ → Option (List ℕ) → Option (List ℕ) → Type 0
+TellsFailure status old new = (f : Failure) × (failure_status f ≡ status) × PrintsFailure f old new
 
 -- the status of an outcome
 abbrev pub outcome_status : Outcome → ℕ

@@ -1,8 +1,12 @@
 //! Why a run ends with a line on standard error.
-ghost use Rattle.std.specs.Prelude.{◌≡◌, ◌⊎◌, ◌≤◌, None, OnOk};
+ghost use Rattle.std.specs.Prelude.{◌≡◌, ◌↔◌, ◌⊎◌, ◌≤◌, IsTrue, None, OnOk, Some};
+ghost use Rattle.std.specs.IoError.{error_kind};
+ghost use Rattle.std.specs.declared.io.ErrorKind.TheVariants.{OutOfMemory};
 ghost use Rattle.std.specs.Io.KnownBytes.{Appends};
-ghost use Rattle.ld_main.specs.Program.{IsUnwritten, PrintsFailure, error_status, failure_status, path_line, unwritten_path, words_status};
+ghost use Rattle.image_write.specs.declared.sink.WriteFault.TheVariants as write_fault;
+ghost use Rattle.ld_main.specs.Program.{IsUnread, IsUnwritten, PrintsFailure, error_status, failure_status, path_line, unread_path, unwritten_path, words_status};
 
+use crate::refusal_texts::print_refusal;
 use elf_model::{CmdFault, LinkError};
 use file_io::GatherFault;
 use image_write::WriteFault;
@@ -107,19 +111,6 @@ fn status_of(error: &LinkError) -> u8
     }
 }
 
-fn print_refusal<W: Write>(
-    err: &mut W,
-    error: &LinkError,
-    symbol: Option<&[u8]>,
-) -> io::Result<()> {
-    write!(err, "ld: {error}")?;
-    if let Some(name) = symbol {
-        err.write_all(b": ")?;
-        err.write_all(name)?;
-    }
-    err.write_all(b"\n")
-}
-
 /// The symbol that a refusal names.
 fn symbol_of(error: &LinkError) -> Option<&[u8]> {
     match error {
@@ -144,13 +135,36 @@ pub fn refused<'a>(alloc: Global, error: LinkError) -> Failure<'a>
     }
 }
 
-/// The failure to read a file: want of memory, or any other fault of its path.
-pub fn unread<'a>(path: CowStr<'a>, error: &io::Error) -> Failure<'a>
-    ensures { 3 ≤ failure_status result }
+/// Whether the system refused memory.
+fn is_of_memory(error: &io::Error) -> bool
+    ensures { IsTrue result ↔ error_kind error.now ≡ OutOfMemory }
 {
-    match error.kind() {
-        ErrorKind::OutOfMemory => Failure::from(LinkError::Memory),
-        _ => Failure::CannotRead(path),
+    error.kind() == ErrorKind::OutOfMemory
+}
+
+/// The fault where the system refuses something about a file that is written.
+pub fn fault_of(error: &io::Error) -> WriteFault
+    ensures memory { error_kind error.now ≡ OutOfMemory → result ≡ write_fault.Memory }
+    ensures device { (error_kind error.now ≡ OutOfMemory → ⊥) → result ≡ write_fault.Device }
+{
+    if is_of_memory(error) {
+        WriteFault::Memory
+    } else {
+        WriteFault::Device
+    }
+}
+
+/// The failure to read a file: want of memory, or any other fault of its path.
+pub fn unread<'a>(path: &'a str, error: &io::Error) -> Failure<'a>
+    ensures memory { error_kind error.now ≡ OutOfMemory → failure_status result ≡ 4 }
+    ensures device { (error_kind error.now ≡ OutOfMemory → ⊥)
+        → unread_path result ≡ Some path.entry.now }
+    ensures either { IsUnread path.entry.now result }
+{
+    if is_of_memory(error) {
+        Failure::from(LinkError::Memory)
+    } else {
+        Failure::CannotRead(CowStr::Borrowed(path))
     }
 }
 

@@ -1,6 +1,6 @@
 //! The files that a run reads.
-ghost use Rattle.std.specs.Prelude.{◌≡◌, ◌≤◌, None, IfErr, IfOk, OnOk};
-ghost use Rattle.ld_main.specs.Program.{failure_status};
+ghost use Rattle.std.specs.Prelude.{◌≡◌, ◌≤◌, None, IfErr, IfOk, OnOk, option_copied};
+ghost use Rattle.ld_main.specs.Program.{IsUnread, failure_status, unwritten_path};
 ghost use Rattle.ld_main.specs.Tasks.{AreOutputsOf};
 
 use crate::failure::{Failure, unread};
@@ -13,12 +13,13 @@ use std::rt::Files;
 
 /// Reads a file that must be there.
 pub fn read_file<'a, R: Files + AllocGlobal>(rt: &R, path: &'a str) -> Result<Vec<u8>, Failure<'a>>
-    ensures { IfErr result (λ f. 3 ≤ failure_status f) }
+    ensures fault { IfErr result (λ f. 3 ≤ failure_status f) }
+    ensures which { IfErr result (IsUnread path.entry.now) }
 {
     match read_whole(rt, path) {
         Ok(Some(bytes)) => Ok(bytes),
         Ok(None) => Err(Failure::CannotRead(CowStr::Borrowed(path))),
-        Err(error) => Err(unread(CowStr::Borrowed(path), &error)),
+        Err(error) => Err(unread(path, &error)),
     }
 }
 
@@ -43,6 +44,7 @@ fn apart<'a>(
     ensures apart { OnOk result (overwritten.entry ≡ None) }
     ensures files { IfOk result (λ v. v ≡ files) }
     ensures fault { IfErr result (λ f. failure_status f ≡ 3) }
+    ensures which { IfErr result (λ f. unwritten_path f ≡ option_copied overwritten.entry) }
 {
     match overwritten {
         Some(path) => Err(Failure::CannotWrite(path)),

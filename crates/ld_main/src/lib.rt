@@ -12,6 +12,7 @@ mod new_file;
 mod outcome;
 mod output;
 mod program;
+mod refusal_texts;
 mod writing;
 
 pub use checker::{Clause, Verdict, check, check_in};

@@ -5,7 +5,7 @@ ghost use Rattle.elf_model.specs.Inputs.Command as command;
 ghost use Rattle.elf_model.specs.Inputs.Command.{command_of};
 ghost use Rattle.elf_model.specs.Inputs.Files.{File, files_of, words_of};
 ghost use Rattle.linker.specs.Linkages.{HasOwnLink};
-ghost use Rattle.ld_main.specs.Program.{Asks, HasRightLink, Judges, JudgesSome, LinksRight, Prints, failure_status, is_checked, outcome_status};
+ghost use Rattle.ld_main.specs.Program.{Asks, HasRightLink, IsUnread, Judges, JudgesSome, LinksRight, Prints, TellsFailure, failure_status, is_checked, outcome_status};
 ghost use Rattle.ld_main.specs.Tasks.{IsTaskBy, IsTaskOf, is_check};
 
 use crate::content::{ImageOf, MapOf};
@@ -104,6 +104,7 @@ fn check_files<'a, R: Files + AllocGlobal + RandomSource>(
 ) -> Result<Outcome, Failure<'a>>
     ensures judged { IfOk result (JudgesSome (files_of files.now) (words_of words.now)) }
     ensures fault { IfErr result (λ f. 3 ≤ failure_status f) }
+    ensures which { IfErr result (λ f. IsUnread image.entry.now f ⊎ IsUnread map.entry.now f) }
 {
     let image = read_file(rt, image)?;
     let map = read_file(rt, map)?;
@@ -207,6 +208,11 @@ fn answer<R: Files + AllocGlobal + RandomSource, O: Write, E: Write>(
     ensures check_prints_no_fault { (p : command.Plan) →
         command_of (words_of words.now) ≡ Ok p → p.check ≡ true → result.0 ≤ 1
         → err.new ≡ err.old }
+    ensures line { 2 ≤ result.0
+        → OnOk result.1 (TellsFailure result.0 (E.contents err.old) (E.contents err.new)) }
+    ensures link_line { (p : command.Plan) →
+        command_of (words_of words.now) ≡ Ok p → p.check ≡ false → 1 ≤ result.0
+        → OnOk result.1 (TellsFailure result.0 (E.contents err.old) (E.contents err.new)) }
 {
     match run(rt, words) {
         Ok(outcome) => (outcome.status(), outcome.print(out)),

@@ -4,14 +4,13 @@ ghost use Rattle.std.specs.Io.KnownBytes.{Appends};
 ghost use Rattle.ld_main.specs.Program.{IsUnwrittenAt, IsUnwrittenOf, failure_status};
 
 use crate::content::Content;
-use crate::failure::{Failure, unwritten};
+use crate::failure::{Failure, fault_of, unwritten};
 use crate::new_file::{NewFile, Opened};
 use file_io::{FileSink, OutputPath, SparseFile, SparseWrite, make_executable};
 use image_write::WriteFault;
 use std::alloc::Global;
 use std::fs::OpenFile;
-use std::io;
-use std::io::{ErrorKind, Seek, Write};
+use std::io::{Seek, Write};
 use std::random::RandomSource;
 use std::rt::Files;
 
@@ -20,14 +19,6 @@ use std::rt::Files;
 pub struct Outputs<'a> {
     pub image: OutputPath<'a>,
     pub map: Option<OutputPath<'a>>,
-}
-
-/// The fault where the system refuses something about a file.
-fn fault_of(error: &io::Error) -> WriteFault {
-    match error.kind() {
-        ErrorKind::OutOfMemory => WriteFault::Memory,
-        _ => WriteFault::Device,
-    }
 }
 
 /// Gives a writer a content; in a regular file with nothing in it zeros are passed over.
