@@ -1,0 +1,3 @@
+pub mod Plans
+pub mod SaidSteps
+pub mod Starts

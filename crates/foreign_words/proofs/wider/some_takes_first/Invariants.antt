@@ -1,0 +1,8 @@
+use Rattle.std.proofs.Common.{◌≡◌, drop}
+use Rattle.std.specs.List.{list_any}
+use Rattle.judge_model.specs.Words.{is_takes_first}
+use Rattle.foreign_words.specs.Says.{says_views}
+use Rattle.foreign_words.proofs.wider.some_takes_first.Given as goal
+
+abbrev pub invariant-loop-says : goal.invariant-loop-says
+invariant-loop-says l = list_any is_takes_first (says_views (drop l.says-index l.all)) ≡ list_any is_takes_first (says_views l.all)
