@@ -1,5 +1,5 @@
 -- One field, from what the code finds of it.
-use Rattle.std.proofs.Common.{◌≡◌, ◌≢◌, ℕ, ◌+◌, ◌*◌, ◌%◌, ◌^◌, ◌<◌, ◌≤◌, Bool, true, false, List, Option, None, Some, length, get_or, refl, sym, ap, subst, ◌∙◌, arith}
+use Rattle.std.proofs.Common.{◌≡◌, ◌≢◌, ℕ, ◌+◌, ◌*◌, ◌%◌, ◌^◌, ◌<◌, Bool, true, false, List, Option, None, Some, length, refl, sym, ap, subst, ◌∙◌, arith}
 use Rattle.std.specs.Prelude.{◌↔◌, ℤ, pos, ◌+ℤ◌, ◌-ℤ◌, Any, IsSomeAnd, IsTrue, option_map}
 use Rattle.std.proofs.lemmas.Bool.{false≢true}
 use Rattle.std.proofs.lemmas.Option.{none-some, same_Some}
@@ -9,7 +9,6 @@ use Rattle.elf_model.specs.Link.Relocation as relocation
 use Rattle.elf_model.specs.Link.Relocation.{IsInRange, modulo_64}
 use Rattle.elf_model.specs.Link.Slots.{slot_kind_of}
 use Rattle.elf_model.specs.declared.link_map.SlotKind.{SlotKind}
-use Rattle.elf_model.specs.declared.records.ProgramHeader.{ProgramHeader}
 use Rattle.elf_model.specs.declared.thing.Thing.{Thing}
 use Rattle.judge_model.specs.Fields.{IsInFile, Letters, whole_value}
 use Rattle.judge_model.specs.Headers.{IsLoad, IsProgram}

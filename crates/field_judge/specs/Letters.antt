@@ -1,5 +1,5 @@
 -- The code's letters of a formula, which count modulo 2 ^ 64.
-use Rattle.std.specs.Prelude.{◌≡◌, ℕ, ℤ, pos, ◌-ℤ◌, ◌%◌, ◌^◌}
+use Rattle.std.specs.Prelude.{◌≡◌, ℕ, pos, ◌-ℤ◌, ◌%◌, ◌^◌}
 use Rattle.field_judge.specs.declared.kinds.Formula.{Formula}
 use Rattle.field_judge.specs.declared.kinds.Formula.TheVariants as formula
 use Rattle.judge_model.specs.Fields.{Letters}

@@ -10,9 +10,9 @@ ghost use Rattle.field_judge.specs.Letters.{AreTerms};
 use crate::formulas::{Terms, less_of, shifted, value_of};
 use crate::kinds::{Formula, Kind};
 use crate::ranges::fits;
-use elf_model::{SlotKind, Thing};
+use elf_model::SlotKind;
 use foreign_image::ForeignImage;
-use memory_judge::{holds_number, is_slot, number_at, shown, slot_address};
+use memory_judge::{Taken, holds_number, is_slot, number_at, shown, slot_address};
 
 /// What a field asks: the value of its relocation's symbol modulo 2^64, where it has one, the addend, the address of the section, 0
 /// where it has none, the field's place in it, the symbol's size, the GOT's address, whether the symbol is in thread-local storage, and
@@ -145,7 +145,7 @@ fn slot_value(kind: SlotKind, value: u64, thread_pointer: u64) -> u64
 /// Whether a field has a slot that is right for a symbol's value, among things that take up memory.
 fn has_slot(
     image: &ForeignImage<'_>,
-    things: &[Thing],
+    taken: &Taken<'_>,
     asked: &Asked,
     kind: &Kind,
     slot_kind: SlotKind,
@@ -155,7 +155,7 @@ fn has_slot(
     requires tells { TellsSlots (kind_view kind.now) }
     requires slot { slots.slot_kind_of (formula_view kind.now.formula) ≡ Some slot_kind }
     ensures { (g : Given) (v : ℕ) → IsGiven image.now asked.now g → g.value ≡ Some v → value ≡ v % 2 ^ 64
-        → IsTrue result ↔ ((at : ℕ) × HasSlotIn image.now things.now g (kind_view kind.now) slot_kind at) }
+        → IsTrue result ↔ ((at : ℕ) × HasSlotIn image.now taken.now g (kind_view kind.now) slot_kind at) }
 {
     let _program = image.image();
     match slot_of(image, *asked, kind) {
@@ -163,7 +163,7 @@ fn has_slot(
             holds_value(image, asked, kind, value, at)
                 && is_slot(
                     image,
-                    things,
+                    taken,
                     at,
                     slot_value(slot_kind, value, asked.thread_pointer),
                 )
@@ -175,7 +175,7 @@ fn has_slot(
 /// Whether a field holds what its formula says for a symbol's value, among things that take up memory.
 fn holds_plain(
     image: &ForeignImage<'_>,
-    things: &[Thing],
+    taken: &Taken<'_>,
     asked: &Asked,
     kind: &Kind,
     value: u64,
@@ -183,21 +183,21 @@ fn holds_plain(
     requires width { IsWidth kind.now.width }
     requires tells { TellsSlots (kind_view kind.now) }
     ensures { (g : Given) (v : ℕ) → IsGiven image.now asked.now g → g.value ≡ Some v → value ≡ v % 2 ^ 64
-        → IsTrue result ↔ HoldsPlainIn image.now things.now g (kind_view kind.now)
+        → IsTrue result ↔ HoldsPlainIn image.now taken.now g (kind_view kind.now)
         (slots.slot_kind_of (formula_view kind.now.formula)) }
 {
     match slot_kind_of(kind.formula) {
-        Some(slot_kind) => has_slot(image, things, asked, kind, slot_kind, value),
+        Some(slot_kind) => has_slot(image, taken, asked, kind, slot_kind, value),
         None => holds_value(image, asked, kind, value, 0),
     }
 }
 
 /// Whether a field of a kind is right, among things that take up memory.
-pub fn is_right(image: &ForeignImage<'_>, things: &[Thing], asked: &Asked, kind: &Kind) -> bool
+pub fn is_right(image: &ForeignImage<'_>, taken: &Taken<'_>, asked: &Asked, kind: &Kind) -> bool
     requires width { IsWidth kind.now.width }
     requires tells { TellsSlots (kind_view kind.now) }
     ensures { (g : Given) → IsGiven image.now asked.now g
-        → IsTrue result ↔ IsRightIn image.now things.now g (kind_view kind.now) }
+        → IsTrue result ↔ IsRightIn image.now taken.now g (kind_view kind.now) }
 {
     if is_mismatch(kind.formula, asked.thread) {
         return false;
@@ -206,7 +206,7 @@ pub fn is_right(image: &ForeignImage<'_>, things: &[Thing], asked: &Asked, kind:
         return false;
     }
     match asked.value {
-        Some(value) => holds_plain(image, things, asked, kind, value),
+        Some(value) => holds_plain(image, taken, asked, kind, value),
         None => false,
     }
 }

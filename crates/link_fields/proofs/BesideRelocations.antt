@@ -1,14 +1,12 @@
 -- Bytes beside the fields of a section are those beside the fields of the relocations that relocate it.
-use Rattle.std.proofs.Common.{◌≡◌, ℕ, ◌+◌, ◌<◌, ◌≤◌, ◌==◌, Bool, true, false, not, cond, List, [], ◌∷◌, ◌++◌, length, get_or, map, None, Some, refl, sym, ap, subst, ◌∙◌, arith}
-use Rattle.std.specs.Prelude.{◌↔◌, All, Contains, IsPermutation, IsTrue, Option, filter, option_map, slice_index}
+use Rattle.std.proofs.Common.{◌≡◌, ℕ, ◌+◌, ◌<◌, ◌≤◌, Bool, true, false, not, List, [], length, get_or, None, Some, sym, ap, subst, ◌∙◌, arith}
+use Rattle.std.specs.Prelude.{◌↔◌, All, Contains, IsTrue, Option, option_map, slice_index}
 use Rattle.std.specs.Borrow.{Bor}
 use Rattle.std.specs.List.{HoldsAt, slice_get}
 use Rattle.std.specs.Option.{MatchOption}
 use Rattle.std.proofs.lemmas.Option.{none-some, slice_get-get_or, slice_get-map, slice_get_past}
-use Rattle.std.proofs.lemmas.Bool.{eq-eqb, eqb-true, false≢true}
-use Rattle.std.proofs.lemmas.List.{append_assoc}
+use Rattle.std.proofs.lemmas.Bool.{false≢true}
 use Rattle.std.proofs.lemmas.List.Elements.{All-contains, All-map, All-weaker}
-use Rattle.std.proofs.lemmas.List.Sorted.{All-permutation, IsPermutation-sym}
 use Rattle.check_link.specs.Views.{placed_view, placed_views}
 use Rattle.check_load.specs.Views.{loaded_view, loaded_views}
 use Rattle.check_load.specs.declared.loaded.Loaded.{Loaded}
@@ -17,17 +15,17 @@ use Rattle.elf_model.specs.Image.RightLink.{byte_at}
 use Rattle.elf_model.specs.Link.Pieces.{load_size}
 use Rattle.elf_model.proofs.Listed.{All-from_contains, All-unmap, Contains-filter, Contains-from_filter}
 use Rattle.elf_model.specs.Link.Loading.{LoadedObject}
-use Rattle.elf_model.specs.Link.Relocation.{Relocation, relocations, relocations_from}
+use Rattle.elf_model.specs.Link.Relocation.{Relocation, relocations}
 use Rattle.elf_model.specs.declared.link_map.DropLine.{DropLine}
 use Rattle.judge_model.specs.Certificates.{is_left_out}
 use Rattle.elf_model.specs.Link.Placement.{Placed}
-use Rattle.judge_model.specs.Fields.{HoldsRest, IsInField}
+use Rattle.judge_model.specs.Fields.{HoldsRest}
 use Rattle.judge_model.specs.Links.{ForeignLink, objects_of, placed_of}
-use Rattle.memory_judge.specs.Rests.{HoldsBetween, IsBeside, IsIn}
+use Rattle.memory_judge.specs.Rests.{HoldsBetween, IsBeside}
 use Rattle.memory_judge.specs.declared.rests.FieldSpan.{FieldSpan}
-use Rattle.link_fields.proofs.OwnRelocations.{object_is, object_low, one_of_all, own_of}
+use Rattle.link_fields.proofs.OwnRelocations.{object_low}
 use Rattle.link_fields.specs.Parts.{Parts, parts_of}
-use Rattle.link_fields.specs.Rests.{HoldsRestIn, IsOutside, is_kept, kept_in, relocates, span_of}
+use Rattle.link_fields.specs.Rests.{HoldsRestIn, IsOutside, is_kept, kept_in}
 
 null_object : LoadedObject
 null_object = record { bytes = []; item = 0; offset = 0; path = []; dropped = [] }
@@ -42,70 +40,42 @@ viewed xs i (Some b) at =
     ap (λ (x : Loaded). Some (loaded_view x)) (at.1 b.now)
     ∙ sym (slice_get-map loaded_view xs i ∙ ap (option_map loaded_view) (slice_get-get_or xs i b.now at.0))
 
+-- no relocation is of no object
+pub no_object :
+    (objects : List LoadedObject) (n s k : ℕ) → None ≡ slice_get objects n → All (IsOutside n s k) (relocations objects)
+no_object objects n s k none =
+    All-from_contains (IsOutside n s k) (relocations objects)
+    (λ r there object section.
+    let low = object_low 0 objects r there in
+    absurd (none-some (get_or objects n null_object) (none ∙ slice_get-get_or objects n null_object (omega (arith, low, object)))))
+
 module _ (drops : List DropLine) (objects : List LoadedObject) (n s : ℕ) where
   kept_there : (r : Relocation) → Contains (kept_in drops objects) r → Contains (relocations objects) r × (is_kept drops r ≡ true)
   kept_there r there = Contains-from_filter (is_kept drops) (relocations objects) r there
+
+  left_out_of : (r : Relocation) → r.object ≡ n → r.section ≡ s → is_left_out drops r.object r.section ≡ is_left_out drops n s
+  left_out_of r object section = ap (λ (i : ℕ). is_left_out drops i r.section) object ∙ ap (λ (i : ℕ). is_left_out drops n i) section
 
   -- no relocation of a section that is left out is kept
   pub left_out : is_left_out drops n s ≡ true → (k : ℕ) → All (IsOutside n s k) (kept_in drops objects)
   left_out out k =
       All-from_contains (IsOutside n s k) (kept_in drops objects)
       (λ r there object section.
-      let kept = (kept_there r there).1 in
-      let same : is_left_out drops r.object r.section ≡ true =
-      subst (λ (i : ℕ). is_left_out drops i r.section ≡ true) (sym object) (subst (λ (i : ℕ). is_left_out drops n i ≡ true) (sym section) out) in
-      absurd (false≢true (sym (ap not same) ∙ kept)))
+      absurd (false≢true (sym (ap not (left_out_of r object section ∙ out)) ∙ (kept_there r there).1)))
 
-  -- nor one of no object
-  pub no_object : None ≡ slice_get objects n → (k : ℕ) → All (IsOutside n s k) (kept_in drops objects)
-  no_object none k =
-      All-from_contains (IsOutside n s k) (kept_in drops objects)
-      (λ r there object section.
-      let low = object_low 0 objects r (kept_there r there).0 in
-      absurd
-      (none-some (get_or objects n null_object) (none ∙ slice_get-get_or objects n null_object (omega (arith, low, object)))))
-
-  module _ (o : LoadedObject) (at : slice_get objects n ≡ Some o) (stays : is_left_out drops n s ≡ false) (k : ℕ) where
-    abbrev own : List Relocation
-    own = filter (relocates s) (relocations_from n o)
-
-    abbrev Free : Relocation → Type 0
-    Free r = ¬ IsInField r k
-
-    none_more : 0 + n ≡ n
-    none_more = omega arith
-
-    outside_of : All Free own → All (IsOutside n s k) (kept_in drops objects)
-    outside_of free =
+  -- and all relocations of one that isn't are
+  pub kept_beside :
+      is_left_out drops n s ≡ false → (k : ℕ) → All (IsOutside n s k) (relocations objects) ↔ All (IsOutside n s k) (kept_in drops objects)
+  kept_beside stays k = (
+    λ all.
         All-from_contains (IsOutside n s k) (kept_in drops objects)
+        (λ r there. All-contains (IsOutside n s k) (relocations objects) r all (kept_there r there).0),
+    λ all.
+        All-from_contains (IsOutside n s k) (relocations objects)
         (λ r there object section.
-        let here : Contains (relocations_from n o) r =
-        subst (λ (i : ℕ). Contains (relocations_from i o) r) none_more (own_of 0 objects n o r at (object ∙ sym none_more) (kept_there r there).0) in
-        All-contains Free own r free (Contains-filter (relocates s) (relocations_from n o) r here (eq-eqb r.section s section)))
-
-    free_of : All (IsOutside n s k) (kept_in drops objects) → All Free own
-    free_of outside =
-        All-from_contains Free own
-        (λ r there.
-        let both = Contains-from_filter (relocates s) (relocations_from n o) r there in
-        let object = object_is n o r both.0 in
-        let section = eqb-true r.section s both.1 in
-        let kept : is_kept drops r ≡ true =
-        ap not
-        (ap (λ (i : ℕ). is_left_out drops i r.section) object ∙ (ap (λ (i : ℕ). is_left_out drops n i) section ∙ stays)) in
-        All-contains (IsOutside n s k) (kept_in drops objects) r outside
-        (Contains-filter (is_kept drops) (relocations objects) r
-        (one_of_all 0 objects n o r at (subst (λ (i : ℕ). Contains (relocations_from i o) r) (sym none_more) both.0)) kept) object section)
-
-    pub beside : (spans : List FieldSpan) → IsPermutation (map span_of own) spans → IsBeside spans k ↔ All (IsOutside n s k) (kept_in drops objects)
-    beside spans same = (
-      λ b.
-          outside_of
-          (All-unmap (λ (t : FieldSpan). ¬ IsIn k t) span_of own (All-permutation (λ (t : FieldSpan). ¬ IsIn k t) spans (map span_of own) (IsPermutation-sym (map span_of own) spans same) b)),
-      λ outside.
-          All-permutation (λ (t : FieldSpan). ¬ IsIn k t) (map span_of own) spans same
-          (All-map (λ (t : FieldSpan). ¬ IsIn k t) span_of own (free_of outside)),
-    )
+        All-contains (IsOutside n s k) (kept_in drops objects) r all
+        (Contains-filter (is_kept drops) (relocations objects) r there (ap not (left_out_of r object section ∙ stays))) object section),
+  )
 
 pub beside_none : (k : ℕ) → IsBeside [] k
 beside_none k j d low = absurd (omega (arith, low))
@@ -140,23 +110,6 @@ all_rests l drops same xs placed = (
       (λ q h. (rest_right l drops same (placed_view q)).1 h) xs
       (All-unmap (HoldsRest l) placed_view xs (subst (All (HoldsRest l)) (sym placed) all)),
 )
-
--- one relocation more is looked at: its field is listed where it relocates the section
-module _ (s : ℕ) (r : Relocation) (rest : List Relocation) (before whole : List FieldSpan) (all : before ++ map span_of (filter (relocates s) (r ∷ rest)) ≡ whole) where
-  looked_at : (b : Bool) → relocates s r ≡ b → before ++ map span_of (cond b (r ∷ filter (relocates s) rest) (filter (relocates s) rest)) ≡ whole
-  looked_at b e =
-      sym (ap (λ (t : Bool). before ++ map span_of (cond t (r ∷ filter (relocates s) rest) (filter (relocates s) rest))) e) ∙ all
-
-  pub passed_over : relocates s r ≡ false → before ++ map span_of (filter (relocates s) rest) ≡ whole
-  passed_over e = looked_at false e
-
-  pub listed :
-      (now : List FieldSpan) (x : FieldSpan) → now ≡ before ++ x ∷ [] → x ≡ span_of r → relocates s r ≡ true →
-      now ++ map span_of (filter (relocates s) rest) ≡ whole
-  listed now x pushed is e =
-      ap (λ (ys : List FieldSpan). ys ++ map span_of (filter (relocates s) rest)) pushed
-      ∙ (append_assoc before (x ∷ []) (map span_of (filter (relocates s) rest))
-      ∙ (ap (λ (y : FieldSpan). before ++ y ∷ map span_of (filter (relocates s) rest)) is ∙ looked_at true e))
 
 -- memory holds the rest of a section where it holds the bytes beside the fields that are found
 pub rest_by :

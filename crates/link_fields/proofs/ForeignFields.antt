@@ -1,11 +1,11 @@
 -- The field of a relocation is right by a link's parts exactly where it is right.
-use Rattle.std.proofs.Common.{◌≡◌, ℕ, ◌⊎◌, inl, inr, Bool, true, List, Option, None, Some, refl, sym, subst, ◌∙◌}
-use Rattle.std.specs.Prelude.{◌↔◌, All, Any, IsSomeAnd, find, is_some, not}
+use Rattle.std.proofs.Common.{◌≡◌, ℕ, ◌⊎◌, inl, inr, true, List, Option, None, Some, refl, sym, subst, ◌∙◌}
+use Rattle.std.specs.Prelude.{◌↔◌, All, Any, IsSomeAnd, not}
 use Rattle.std.proofs.lemmas.List.Elements.{All-weaker}
 use Rattle.std.proofs.lemmas.Option.{same_Some}
 use Rattle.elf_model.specs.Link.Placement as placement
 use Rattle.elf_model.specs.Link.Placement.{AreApart, Covers}
-use Rattle.elf_model.specs.Link.Relocation.{IsMismatch, Kind, Relocation, relocations}
+use Rattle.elf_model.specs.Link.Relocation.{Kind, Relocation, relocations}
 use Rattle.elf_model.specs.Link.Slots.{slot_kind_of}
 use Rattle.elf_model.specs.declared.link_map.SlotKind.{SlotKind}
 use Rattle.elf_model.specs.declared.link_map.SlotKind.TheVariants as slot

@@ -1,6 +1,6 @@
 -- Claims on all and on some of a list.
 use Rattle.std.proofs.Common.{◌≡◌, ℕ, ◌+◌, ◌<◌, Bool, true, List, [], ◌∷◌, ◌++◌, length, get_or, ap, subst, sym, ◌∙◌}
-use Rattle.std.specs.Prelude.{All, Any, Contains, filter}
+use Rattle.std.specs.Prelude.{All, Any, filter}
 use Rattle.std.proofs.lemmas.List.Elements.{All-append, All-cons, All-contains, All-head, All-nil, All-tail, All-weaker}
 use Rattle.elf_model.proofs.Finding.{Any-from_contains}
 use Rattle.elf_model.proofs.FlatRelocations.{left_of_objects, object_more}
@@ -8,7 +8,6 @@ use Rattle.elf_model.proofs.Rests.{Left}
 use Rattle.elf_model.proofs.Listed.{All-from_contains, All-parts, Contains-filter, Contains-from_filter}
 use Rattle.check_load.specs.Views.{loaded_view}
 use Rattle.check_load.specs.declared.loaded.Loaded.{Loaded}
-use Rattle.elf_model.specs.Link.Loading.{LoadedObject}
 use Rattle.elf_model.specs.Link.Relocation.{relocations_from}
 use Rattle.elf_model.specs.Link.Placement.{AreApart, Covers}
 use Rattle.elf_model.specs.declared.thing.Thing.{Thing}

@@ -1,2 +1,4 @@
+pub mod Drops
+pub mod Fields
 pub mod Parts
 pub mod Rests

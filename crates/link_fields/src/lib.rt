@@ -7,13 +7,16 @@
 #![tactic(auto)]
 
 mod addresses;
+mod drops;
 mod linker_values;
 mod meanings;
+mod object_fields;
 mod own_rests;
 mod parts;
 mod relocations;
 
 pub use addresses::Addresses;
+pub use drops::Drops;
 pub use meanings::{Meant, symbol_meant};
 pub use own_rests::are_rests_right;
 pub use parts::LinkParts;

@@ -6,20 +6,20 @@ ghost use Rattle.check_link.specs.Views.{symbol_view};
 ghost use Rattle.check_load.specs.KeptRelocations.{relocation_at};
 ghost use Rattle.check_load.specs.Views.{loaded_view};
 ghost use Rattle.field_judge.specs.Given.{IsGiven, pointer_of};
-ghost use Rattle.judge_model.specs.Certificates.{is_left_out};
 ghost use Rattle.link_fields.specs.Parts as words;
 ghost use Rattle.judge_model.specs.Links.{ForeignLink};
 ghost use Rattle.judge_model.specs.RightForeign.{Holds};
 ghost use Rattle.judge_model.specs.declared.judgement.Requirement.TheVariants as requirement;
 ghost use Rattle.link_fields.specs.Parts.{AreTaken, IsFieldRightIn, IsFieldRightUnlessOut, IsMeant, given, parts_of};
 
+use crate::drops::Drops;
 use crate::meanings::{Meant, symbol_meant};
 use crate::parts::LinkParts;
 use check_link::SymbolOf;
 use check_load::{KeptRelocation, Loaded};
-use elf_model::{DropLine, Thing};
 use elf_read::ObjectFile;
 use field_judge::{Asked, foreign_kind, is_right, thread_pointer};
+use memory_judge::Taken;
 
 /// Symbol `j` of object `number`; the null symbol where there is no such symbol.
 fn symbol_of<'a>(loaded: &Loaded<'a>, number: u64, j: usize) -> SymbolOf<'a>
@@ -101,7 +101,7 @@ fn address_or_zero(parts: &LinkParts<'_, '_, '_>, object: u64, section: u64) -> 
 /// Whether the field of a relocation of object `number` is right, among things that take up memory.
 fn is_field_right<'a>(
     parts: &LinkParts<'_, '_, 'a>,
-    taken: &[Thing],
+    taken: &Taken<'_>,
     number: u64,
     loaded: &Loaded<'a>,
     relocation: &KeptRelocation,
@@ -120,20 +120,11 @@ fn is_field_right<'a>(
     }
 }
 
-/// Whether a section is left out.
-pub fn is_out(drops: &[DropLine], object: u64, section: u64) -> bool
-    ensures { result ≡ is_left_out drops.now object section }
-{
-    drops
-        .iter()
-        .any(|line| line.object == object && line.section == section)
-}
-
 /// Whether the field of a relocation is right, or its section is left out.
 fn is_right_unless_out<'a>(
     parts: &LinkParts<'_, '_, 'a>,
-    taken: &[Thing],
-    drops: &[DropLine],
+    taken: &Taken<'_>,
+    drops: &Drops<'_>,
     number: u64,
     loaded: &Loaded<'a>,
     relocation: &KeptRelocation,
@@ -143,7 +134,7 @@ fn is_right_unless_out<'a>(
     ensures { IsTrue result ↔ IsFieldRightUnlessOut parts.now taken.now drops.now
         (relocation_at number (loaded_view loaded.now) relocation.now) }
 {
-    if is_out(drops, number, relocation.section as u64) {
+    if drops.has(number, relocation.section as u64) {
         return true;
     }
     is_field_right(parts, taken, number, loaded, relocation, thread_pointer)
@@ -152,8 +143,8 @@ fn is_right_unless_out<'a>(
 /// Whether the fields of the relocations of object `number` are right, but for those of sections that are left out.
 fn are_own_right<'a>(
     parts: &LinkParts<'_, '_, 'a>,
-    taken: &[Thing],
-    drops: &[DropLine],
+    taken: &Taken<'_>,
+    drops: &Drops<'_>,
     number: u64,
     loaded: &Loaded<'a>,
     thread_pointer: u64,
@@ -179,7 +170,7 @@ fn are_own_right<'a>(
 }
 
 /// Whether the fields of all relocations are right, but for those of sections that are left out.
-fn are_all_right(parts: &LinkParts<'_, '_, '_>, taken: &[Thing], drops: &[DropLine]) -> bool
+fn are_all_right(parts: &LinkParts<'_, '_, '_>, taken: &Taken<'_>, drops: &Drops<'_>) -> bool
     ensures { IsTrue result ↔ All (IsFieldRightUnlessOut parts.now taken.now drops.now)
         (relocations parts.now.objects) }
 {
@@ -195,7 +186,7 @@ fn are_all_right(parts: &LinkParts<'_, '_, '_>, taken: &[Thing], drops: &[DropLi
 
 /// Whether the field of each relocation of a link is right, given its parts, the lines of the sections that are left out, and
 /// where memory is taken: by headers, notes, sections and common blocks, and in the gaps of runs.
-pub fn are_fields_right(parts: &LinkParts<'_, '_, '_>, taken: &[Thing], drops: &[DropLine]) -> bool
+pub fn are_fields_right(parts: &LinkParts<'_, '_, '_>, taken: &Taken<'_>, drops: &Drops<'_>) -> bool
     ensures { (l : ForeignLink) → parts_of l ≡ parts.now → l.certificate.drops ≡ drops.now
         → AreTaken l taken.now → IsTrue result ↔ Holds requirement.F5 l }
 {

@@ -7,7 +7,7 @@ use Rattle.std.proofs.lemmas.Option.{same_Some}
 use Rattle.elf_model.proofs.Rests.{Left}
 use Rattle.memory_judge.proofs.Padded.{below_or_not}
 use Rattle.loader_model.specs.Memory.{IsRun}
-use Rattle.memory_judge.specs.Rests.{AreEqual, HoldsBetween, IsBeside, IsIn, IsRestFrom}
+use Rattle.memory_judge.specs.Rests.{AreEqual, HoldsBetween, IsIn, IsRestFrom}
 use Rattle.memory_judge.specs.declared.rests.FieldSpan.{FieldSpan}
 
 -- later fields begin where this one does, or behind

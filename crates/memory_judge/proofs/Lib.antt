@@ -1,3 +1,4 @@
 pub mod BesideFields
 pub mod NumberBytes
 pub mod Padded
+pub mod SpanLaws

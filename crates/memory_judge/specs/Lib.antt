@@ -1,3 +1,4 @@
 pub mod Numbers
 pub mod Rests
 pub mod Slots
+pub mod Spans

@@ -5,7 +5,9 @@
 mod numbers;
 mod rests;
 mod slots;
+mod spans;
 
 pub use numbers::{holds_number, number_at, shown};
 pub use rests::{FieldSpan, holds_rest};
 pub use slots::{is_slot, slot_address};
+pub use spans::{Span, Taken, spans_of};

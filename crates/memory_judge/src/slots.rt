@@ -1,12 +1,15 @@
 //! Slots of a GOT, which a field tells the place of.
-ghost use Rattle.std.specs.Prelude.{◌≡◌, ◌↔◌, ◌<◌, ◌%◌, ◌^◌, ◌+ℤ◌, ◌-ℤ◌, ℕ, All, Any, IsTrue, pos};
+ghost use Rattle.std.specs.Prelude.{◌≡◌, ◌↔◌, ◌+◌, ◌<◌, ◌≤◌, ◌%◌, ◌^◌, ◌+ℤ◌, ◌-ℤ◌, ℕ, All, AllPairs, Any, IsTrue, length, pos, slice_index_or};
+ghost use Rattle.std.specs.List.Sorted.{IsNonDecreasingBy};
 ghost use Rattle.elf_model.specs.Image.MemoryImage.{loads};
 ghost use Rattle.elf_model.specs.Link.Relocation.{modulo_64};
 ghost use Rattle.judge_model.specs.Fields.{IsInFile};
-ghost use Rattle.memory_judge.specs.Slots.{IsClear, IsSlotAmong};
+ghost use Rattle.memory_judge.specs.Slots.{IsApartFrom, IsClear, IsSlotAmong};
+ghost use Rattle.memory_judge.specs.Spans.{IsSpanBefore};
 
 use crate::numbers::holds_number;
-use elf_model::{ProgramHeader, Thing};
+use crate::spans::{Span, Taken};
+use elf_model::ProgramHeader;
 use foreign_image::ForeignImage;
 
 /// The address below 2^64 that, with an addend and less a number, is a value modulo 2^64.
@@ -35,40 +38,56 @@ fn is_in_some_file(at: u64, segments: &[ProgramHeader]) -> bool
     segments.iter().any(|h| is_in_file(at, h))
 }
 
-/// Whether a thing has none of the eight bytes from an address on.
-fn is_apart(at: u64, thing: &Thing) -> bool
-    ensures { IsTrue result ↔ IsClear at thing.now }
+/// How many of the spans end at or below an address.
+fn count_ended(spans: &[Span], at: u64) -> usize
+    requires { IsNonDecreasingBy (λ s. s.to) spans.now }
+    ensures within { result ≤ length spans.now }
+    ensures ended { (k : ℕ) (d : Span) → k < result → (slice_index_or spans.now k d).to ≤ at }
+    ensures not_yet { (k : ℕ) (d : Span) →
+        result ≤ k → k < length spans.now → at < (slice_index_or spans.now k d).to }
 {
-    if thing.size == 0 {
-        return true;
-    }
-    if thing.at <= at {
-        return thing.size <= at - thing.at;
-    }
-    thing.at - at >= 8
+    spans.partition_point(|s| s.to <= at)
 }
 
-fn is_apart_from_all(at: u64, things: &[Thing]) -> bool
-    ensures { IsTrue result ↔ All (IsClear at) things.now }
+/// Whether a span begins behind the eight bytes from an address on.
+fn begins_behind(at: u64, span: &Span) -> bool
+    ensures { IsTrue result ↔ (at + 8 ≤ span.now.from) }
 {
-    for thing in things {
-        if !is_apart(at, thing) {
-            return false;
-        }
+    span.from >= at && span.from - at >= 8
+}
+
+/// Whether none of the spans, which rise apart, has one of the eight bytes from an address on.
+fn is_apart_from_spans(at: u64, spans: &[Span]) -> bool
+    requires some { All (λ s. s.from < s.to) spans.now }
+    requires rising { AllPairs IsSpanBefore spans.now }
+    ensures { IsTrue result ↔ All (IsApartFrom at) spans.now }
+{
+    match spans.get(count_ended(spans, at)) {
+        Some(next) => begins_behind(at, next),
+        None => true,
     }
-    true
+}
+
+/// Whether no thing has one of the eight bytes from an address on, all of them below 2^64 - 1. It takes the logarithm of the number
+/// of things.
+fn is_apart_from_all(at: u64, taken: &Taken<'_>) -> bool
+    requires { at + 8 < 2 ^ 64 }
+    ensures { IsTrue result ↔ All (IsClear at) taken.now }
+{
+    is_apart_from_spans(at, taken.spans())
 }
 
 /// Whether there may be a slot at an address, and it holds a value: it is aligned, lies in the file part of a segment, and apart
 /// from things that take up memory.
-pub fn is_slot(image: &ForeignImage<'_>, things: &[Thing], at: u64, value: u64) -> bool
-    ensures { IsTrue result ↔ IsSlotAmong image.now things.now at value }
+pub fn is_slot(image: &ForeignImage<'_>, taken: &Taken<'_>, at: u64, value: u64) -> bool
+    ensures { IsTrue result ↔ IsSlotAmong image.now taken.now at value }
 {
+    let _program = image.image();
     if at % 8 != 0 || !is_in_some_file(at, image.segments()) {
         return false;
     }
     if !holds_number(image, at, 0, 8, value) {
         return false;
     }
-    is_apart_from_all(at, things)
+    is_apart_from_all(at, taken)
 }

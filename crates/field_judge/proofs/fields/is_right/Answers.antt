@@ -49,6 +49,6 @@ returns-in-None c = λ g given. (
   λ e. absurd (false≢true e),
   λ h.
       absurd
-      (needs_value c.args.image.now c.args.things.now g (kind_view c.args.kind.now) (slot_kind_of (formula_view c.args.kind.now.formula))
+      (needs_value c.args.image.now c.args.taken.now g (kind_view c.args.kind.now) (slot_kind_of (formula_view c.args.kind.now.formula))
       (sym c.in-None.is ∙ given.value) h.2),
 )

@@ -1,4 +1,4 @@
-use Rattle.std.proofs.Common.{rules, ◌+◌, ◌%◌, ◌^◌, ◌≡◌, ◌∙◌, ℕ, ap, refl, subst, sym}
+use Rattle.std.proofs.Common.{rules, ◌%◌, ◌^◌, ◌∙◌, ℕ, ap, refl, subst, sym}
 use Rattle.std.specs.Prelude.{Some}
 use Rattle.std.proofs.lemmas.Int.{to_z-of_z}
 use Rattle.std.proofs.lemmas.Option.{same_Some}

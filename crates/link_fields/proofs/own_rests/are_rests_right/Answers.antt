@@ -1,8 +1,7 @@
-use Rattle.std.proofs.Common.{◌≡◌, ap, subst, sym, ◌∙◌}
+use Rattle.std.proofs.Common.{ap, subst, sym, ◌∙◌}
 use Rattle.std.specs.Prelude.{◌↔◌, All, IsTrue}
-use Rattle.check_link.specs.Views.{placed_view, placed_views}
+use Rattle.check_link.specs.Views.{placed_view}
 use Rattle.elf_model.proofs.Listed.{All-unmap}
-use Rattle.elf_model.specs.declared.link_map.DropLine.{DropLine}
 use Rattle.check_link.specs.declared.things.Placed.{Placed}
 use Rattle.link_fields.proofs.BesideRelocations.{all_rests}
 use Rattle.link_fields.specs.Parts.{Parts}

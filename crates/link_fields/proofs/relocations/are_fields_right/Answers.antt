@@ -2,7 +2,7 @@ use Rattle.std.proofs.Common.{subst, sym}
 use Rattle.std.specs.Prelude.{◌↔◌, All, IsTrue}
 use Rattle.elf_model.specs.Link.Relocation.{relocations}
 use Rattle.link_fields.proofs.ForeignFields.{all_right}
-use Rattle.link_fields.specs.Parts.{IsFieldRightUnlessOut, Parts, parts_of}
+use Rattle.link_fields.specs.Parts.{IsFieldRightUnlessOut, Parts}
 use Rattle.link_fields.proofs.relocations.are_fields_right.Goals as goal
 
 pub returns : goal.returns

@@ -1,4 +1,4 @@
-use Rattle.std.proofs.Common.{◌≡◌, ◌==◌, ◌∙◌, List, Option, ℕ, ap, subst}
+use Rattle.std.proofs.Common.{◌==◌, ◌∙◌, List, Option, ℕ, ap, subst}
 use Rattle.std.specs.Prelude.{◌↔◌, IsSomeAnd, IsTrue, find}
 use Rattle.check_load.specs.KeptRelocations.{relocation_at}
 use Rattle.check_load.specs.Views.{loaded_view}

@@ -1,8 +1,7 @@
-use Rattle.std.proofs.Common.{◌≡◌, ◌<◌, ◌∙◌, ap, refl, sym, arith}
-use Rattle.std.specs.Prelude.{Some, length}
+use Rattle.std.proofs.Common.{◌∙◌, ap, refl, sym, arith}
+use Rattle.std.specs.Prelude.{Some}
 use Rattle.std.proofs.lemmas.Bool.{false≢true}
 use Rattle.byteview.proofs.NumberLaws.{length-le_bytes, low_first_is}
-use Rattle.byteview.specs.Numbers.{le_bytes}
 use Rattle.memory_judge.proofs.NumberBytes.{lowest}
 use Rattle.memory_judge.proofs.numbers.holds_number.Goals as goal
 

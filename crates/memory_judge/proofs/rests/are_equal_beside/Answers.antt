@@ -1,11 +1,11 @@
-use Rattle.std.proofs.Common.{◌≡◌, ◌+◌, ◌∙◌, List, ap, drop, get_or, subst, sym, arith}
-use Rattle.std.specs.Prelude.{max, min}
+use Rattle.std.proofs.Common.{◌+◌, ◌∙◌, List, ap, drop, get_or, subst, sym, arith}
+use Rattle.std.specs.Prelude.{max}
 use Rattle.std.specs.List.Sorted.{IsNonDecreasingBy}
 use Rattle.std.proofs.lemmas.Bool.{false≢true}
 use Rattle.std.proofs.lemmas.List.{drop_all}
 use Rattle.std.proofs.lemmas.List.Sorted.{IsNonDecreasingBy-drop}
 use Rattle.elf_model.proofs.Rests.{Left, rest_at}
-use Rattle.memory_judge.proofs.BesideFields.{front_equal, next, rest_end, rest_more}
+use Rattle.memory_judge.proofs.BesideFields.{front_equal, rest_end, rest_more}
 use Rattle.memory_judge.specs.Rests.{AreEqual, IsRestFrom}
 use Rattle.memory_judge.specs.declared.rests.FieldSpan.{FieldSpan}
 use Rattle.memory_judge.proofs.rests.are_equal_beside.Goals as goal

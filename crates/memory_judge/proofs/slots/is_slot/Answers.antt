@@ -1,4 +1,4 @@
-use Rattle.std.proofs.Common.{◌≡◌, ◌+◌, ℕ, List, subst, sym, arith}
+use Rattle.std.proofs.Common.{◌≡◌, ◌+◌, ℕ, List, subst, arith}
 use Rattle.std.specs.Prelude.{Any}
 use Rattle.byteview.specs.Numbers.{le_bytes}
 use Rattle.elf_model.specs.declared.records.ProgramHeader.{ProgramHeader}

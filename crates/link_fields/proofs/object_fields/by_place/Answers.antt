@@ -1,7 +1,7 @@
 use Rattle.std.proofs.Common.{rules}
 use Rattle.std.proofs.lemmas.List.Sorted.{IsNonDecreasingBy-from_sort_by_key}
 use Rattle.memory_judge.specs.declared.rests.FieldSpan.{FieldSpan}
-use Rattle.link_fields.proofs.own_rests.sorted.Goals as goal
+use Rattle.link_fields.proofs.object_fields.by_place.Goals as goal
 
 pub returns-clause-rising : goal.returns-clause-rising
 returns-clause-rising c =
