@@ -5,7 +5,7 @@ use byteview::View;
 use elf_model::Thing;
 use field_judge::{Asked, foreign_kind, is_right, thread_pointer};
 use foreign_image::ForeignImage;
-use memory_judge::{FieldSpan, holds_rest};
+use memory_judge::{FieldSpan, Taken, holds_rest};
 use std::alloc::{AllocError, Global};
 use std::test::Fail;
 
@@ -161,8 +161,8 @@ fn thing_at(at: u64, size: u64) -> Thing {
     }
 }
 
-/// Whether a row's field is right in an image, where there are these things.
-fn judged_in(image: &ForeignImage<'_>, row: &Row, things: &[Thing]) -> bool {
+/// Whether a row's field is right in an image, where this memory is taken.
+fn judged_in(image: &ForeignImage<'_>, row: &Row, taken: &Taken<'_>) -> bool {
     let asked = Asked {
         value: Some(row.value),
         addend: row.addend,
@@ -174,15 +174,16 @@ fn judged_in(image: &ForeignImage<'_>, row: &Row, things: &[Thing]) -> bool {
         thread_pointer: thread_pointer(image),
     };
     match foreign_kind(row.kind) {
-        Some(kind) => is_right(image, things, &asked, &kind),
+        Some(kind) => is_right(image, taken, &asked, &kind),
         None => false,
     }
 }
 
 fn judged(alloc: Global, row: &Row, things: &[Thing]) -> Result<bool, AllocError> {
     let bytes = image_with(alloc, &HEADER, &[HEADERS, CODE, BLOCK], &row.bytes)?;
+    let taken = Taken::new(alloc, things)?;
     match ForeignImage::read(alloc, View::new(&bytes))? {
-        Some(image) => Ok(judged_in(&image, row, things)),
+        Some(image) => Ok(judged_in(&image, row, &taken)),
         None => Ok(false),
     }
 }
