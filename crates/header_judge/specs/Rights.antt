@@ -1,0 +1,64 @@
+-- The requirements on a program header that a link's words, objects and pieces decide, each as a word of its own.
+use Rattle.std.specs.Prelude.{◌≡◌, ◌⊎◌, ◌&&◌, ◌||◌, ℕ, Bool, true, List, All, bit_and, codes}
+use Rattle.std.specs.List.{list_any}
+use Rattle.std.specs.Str.{bytes_eq}
+use Rattle.elf_model.specs.Image.MemoryImage.{program_headers}
+use Rattle.elf_model.specs.Inputs.ObjectFile.{name_of_section}
+use Rattle.elf_model.specs.Link.Loading.{LoadedObject}
+use Rattle.elf_model.specs.Link.Pieces.{is_executable, is_gathered_by}
+use Rattle.elf_model.specs.Link.Placement.{Covers, Placed, thing_of}
+use Rattle.elf_model.specs.declared.constants.TheConstants.{PF_X}
+use Rattle.elf_model.specs.declared.records.ProgramHeader.{ProgramHeader}
+use Rattle.elf_model.specs.declared.records.SectionHeader.{SectionHeader}
+use Rattle.judge_model.specs.Headers.{IsProgram, IsProtected, is_executing_note, is_written_late, pt_gnu_relro, pt_gnu_stack, relro_names}
+use Rattle.judge_model.specs.Links.{ForeignLink, objects_of, placed_of}
+use Rattle.judge_model.specs.Plans.{in_script}
+
+-- a name is one of those that are written before memory is made read-only
+abbrev pub is_early_name : List ℕ → Bool
+is_early_name name = list_any (is_gathered_by name) relro_names
+
+-- the physical address is the virtual one, or a script says others
+pub record HasPhysical (physical : Bool) (h : ProgramHeader) : Type 0 where
+  pub same : (h.p_paddr ≡ h.p_vaddr) ⊎ (physical ≡ true)
+
+-- a header makes no byte of a placed thing read-only
+abbrev pub IsApart : ProgramHeader → Placed → Type 0
+IsApart h q = (a : ℕ) → Covers (thing_of q) a → ¬ IsProtected h a
+
+-- it makes none read-only that the program may write
+pub record IsSpared (h : ProgramHeader) (q : Placed) : Type 0 where
+  pub spared : is_written_late q ≡ true → IsApart h q
+
+pub record SparesAll (qs : List Placed) (h : ProgramHeader) : Type 0 where
+  pub spares : h.p_type ≡ pt_gnu_relro → All (IsSpared h) qs
+
+-- a header makes the stack executable only where it may be
+pub record HasStack (may : Bool) (h : ProgramHeader) : Type 0 where
+  pub stack : h.p_type ≡ pt_gnu_stack → bit_and h.p_flags PF_X ≡ PF_X → may ≡ true
+
+-- a section is the note on the stack; it is, and says that the stack is executed
+abbrev pub is_note : List ℕ → SectionHeader → Bool
+is_note bytes h = bytes_eq (name_of_section bytes h) (codes ".note.GNU-stack")
+
+abbrev pub asks : List ℕ → SectionHeader → Bool
+asks bytes h = is_executable h && is_note bytes h
+
+-- the words or an object ask for a stack that can be executed
+abbrev pub may_execute : Bool → List LoadedObject → Bool
+may_execute executes os = executes || list_any (λ o. is_executing_note o.bytes) os
+
+-- the headers are right by these
+pub record AreRightBy (image : List ℕ) (physical may : Bool) (qs : List Placed) : Type 0 where
+  pub program : IsProgram image
+  pub physicals : All (HasPhysical physical) (program_headers image)
+  pub spares : All (SparesAll qs) (program_headers image)
+  pub stacks : All (HasStack may) (program_headers image)
+
+-- these are a link's image, objects, pieces and words
+pub record IsOfLink (l : ForeignLink) (image : List ℕ) (os : List LoadedObject) (qs : List Placed) (physical executes : Bool) : Type 0 where
+  pub image_is : l.image ≡ image
+  pub objects_are : objects_of l ≡ os
+  pub placed_are : placed_of l ≡ qs
+  pub physical_is : in_script (λ t. t.physical) l.plan ≡ physical
+  pub executes_is : l.plan.executes_stack ≡ executes

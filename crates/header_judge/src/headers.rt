@@ -1,0 +1,61 @@
+//! Whether the headers of an image are right.
+ghost use Rattle.std.specs.Prelude.{◌↔◌, All, IsTrue};
+ghost use Rattle.check_link.specs.Views.{placed_views};
+ghost use Rattle.check_load.specs.Views.{loaded_views};
+ghost use Rattle.judge_model.specs.Links.{ForeignLink};
+ghost use Rattle.judge_model.specs.RightForeign.{Holds};
+ghost use Rattle.judge_model.specs.declared.judgement.Requirement.TheVariants as requirement;
+ghost use Rattle.header_judge.specs.Rights.{AreRightBy, HasPhysical, IsOfLink};
+
+use crate::protected::do_all_spare;
+use crate::stack::{are_stacks, may_execute};
+use check_link::Placed;
+use check_load::Loaded;
+use elf_model::ProgramHeader;
+use foreign_image::ForeignImage;
+
+fn has_physical(physical: bool, h: &ProgramHeader) -> bool
+    ensures { IsTrue result ↔ HasPhysical physical h.now }
+{
+    h.p_paddr == h.p_vaddr || physical
+}
+
+/// Whether the physical addresses are the virtual ones, where no script says others.
+fn are_physical(physical: bool, headers: &[ProgramHeader]) -> bool
+    ensures { IsTrue result ↔ All (HasPhysical physical) headers.now }
+{
+    headers.iter().all(|h| has_physical(physical, h))
+}
+
+/// Whether the headers are right of placed things, where the stack may be executed or not.
+fn are_right_by(image: &ForeignImage<'_>, physical: bool, may: bool, placed: &[Placed<'_>]) -> bool
+    ensures { IsTrue result ↔ AreRightBy image.now physical may (placed_views placed.now) }
+{
+    let _program = image.image();
+    let headers = image.headers();
+    if !are_physical(physical, headers) {
+        return false;
+    }
+    if !are_stacks(may, headers) {
+        return false;
+    }
+    do_all_spare(placed, headers)
+}
+
+/// Whether the headers of a link's image, which is a program, give it no more than the link does: physical addresses are
+/// the virtual ones, unless the script has AT (`physical`); PT_GNU_RELRO makes nothing read-only that the program may
+/// write; and the stack may be executed only where the words (`executes`) or an object ask for it.
+pub fn are_headers_right(
+    image: &ForeignImage<'_>,
+    objects: &[Loaded<'_>],
+    placed: &[Placed<'_>],
+    physical: bool,
+    executes: bool,
+) -> bool
+    ensures { (l : ForeignLink)
+        → IsOfLink l image.now (loaded_views objects.now) (placed_views placed.now) physical executes
+        → IsTrue result ↔ Holds requirement.F12 l }
+{
+    let may = may_execute(executes, objects);
+    are_right_by(image, physical, may, placed)
+}

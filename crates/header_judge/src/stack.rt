@@ -1,0 +1,69 @@
+//! Whether the stack may be executed: where the words ask for it, or an object does by the flags of its `.note.GNU-stack`.
+ghost use Rattle.std.specs.Prelude.{◌≡◌, ◌↔◌, ◌<◌, All, IsTrue, length};
+ghost use Rattle.std.specs.List.{list_any};
+ghost use Rattle.check_load.specs.Views.{loaded_views};
+ghost use Rattle.elf_model.specs.Inputs.ObjectFile as object_file;
+ghost use Rattle.judge_model.specs.Headers.{is_executing_note};
+ghost use Rattle.header_judge.specs.Rights.{HasStack, asks, is_note, may_execute};
+
+use check_load::Loaded;
+use elf_model::{PF_X, PT_GNU_STACK, ProgramHeader};
+use elf_read::ObjectFile;
+
+/// Whether a section is that note, and says that the stack is executed.
+fn asks(object: &ObjectFile<'_>, i: usize) -> bool
+    requires { i < length (object_file.sections object.now) }
+    ensures { result ≡ asks object.now (object_file.section (object_file.sections object.now) i) }
+{
+    object.section(i).is_executable() && is_note(object, i)
+}
+
+/// Whether a section is the note on the stack.
+fn is_note(object: &ObjectFile<'_>, i: usize) -> bool
+    requires { i < length (object_file.sections object.now) }
+    ensures { result ≡ is_note object.now (object_file.section (object_file.sections object.now) i) }
+{
+    match object.section_name(i) {
+        Some(name) => name == b".note.GNU-stack".as_slice(),
+        None => false,
+    }
+}
+
+/// Whether an object asks for a stack that can be executed.
+fn is_executing_note(object: &ObjectFile<'_>) -> bool
+    ensures { result ≡ is_executing_note object.now }
+{
+    for i in 0..object.sections().len() {
+        if asks(object, i) {
+            return true;
+        }
+    }
+    false
+}
+
+/// Whether one of some objects does.
+fn do_some_ask(objects: &[Loaded<'_>]) -> bool
+    ensures { result ≡ list_any (λ o. is_executing_note o.object) objects.now }
+{
+    objects.iter().any(|o| is_executing_note(&o.object))
+}
+
+/// Whether the words ask for a stack that can be executed, or an object does.
+pub fn may_execute(executes: bool, objects: &[Loaded<'_>]) -> bool
+    ensures { result ≡ may_execute executes (loaded_views objects.now) }
+{
+    executes || do_some_ask(objects)
+}
+
+fn has_stack(may: bool, h: &ProgramHeader) -> bool
+    ensures { IsTrue result ↔ HasStack may h.now }
+{
+    h.p_type != PT_GNU_STACK || h.p_flags & PF_X != PF_X || may
+}
+
+/// Whether no header makes the stack executable where it may not be.
+pub fn are_stacks(may: bool, headers: &[ProgramHeader]) -> bool
+    ensures { IsTrue result ↔ All (HasStack may) headers.now }
+{
+    headers.iter().all(|h| has_stack(may, h))
+}
