@@ -1,0 +1,3 @@
+mod ClearSteps
+mod NameLaw
+mod RowLaw

@@ -1,0 +1,179 @@
+-- The names of a link are right by its addresses exactly where they are right.
+use Rattle.std.proofs.Common.{◌≡◌, ◌∙◌, inl, inr, ℕ, ◌+◌, ◌<◌, ◌≤◌, List, [], ◌∷◌, Option, None, Some, subst, sym}
+use Rattle.std.specs.Prelude.{◌↔◌, All, IfSome, codes, unwrap_or}
+use Rattle.std.specs.Borrow.{Bor}
+use Rattle.std.specs.BTreeMap.{BTreeMap}
+use Rattle.std.proofs.lemmas.List.Elements.{All-cons, All-head, All-nil, All-tail, All-weaker}
+use Rattle.elf_model.specs.Image.MemoryImage.{loads}
+use Rattle.elf_model.specs.Link.LinkerNames.{named_output}
+use Rattle.elf_model.specs.Link.Placement.{Covers}
+use Rattle.elf_model.specs.declared.bound.Bound.{Bound}
+use Rattle.elf_model.specs.declared.bound.Bound.TheVariants.{CodeEnd, DataEnd, GotStart, ImageEnd, ImageStart, OutputEnd, OutputStart, ZeroStart}
+use Rattle.elf_model.specs.declared.thing.Thing.{Thing}
+use Rattle.check_link.specs.ByName.{found_in}
+use Rattle.check_link.specs.Outputs.{AreSpans, end_of, start_of}
+use Rattle.check_link.specs.declared.bounds.Span.{Span}
+use Rattle.judge_model.specs.Certificates.{NameRow}
+use Rattle.judge_model.specs.Links.{ForeignLink, placed_of}
+use Rattle.judge_model.specs.Names.{AreNamesRight, IsAt, IsBoundAt, IsBoundRight, IsEnd, IsImageEnd, IsPairRight, IsStart, bound_of, pair, pairs, start_of_output}
+use Rattle.judge_model.specs.Placed.{things_of}
+use Rattle.judge_model.specs.declared.certificate.NoteLine.{NoteLine}
+use Rattle.link_fields.specs.Parts.{Parts, parts_of}
+use Rattle.name_judge.specs.Bounds.{AreMarks, AreNamesBy, ArePairsOne, EndsAt, IsBoundBy, IsEndOfAll, IsPairOne, IsRowRight, SpanEnds, SpanStarts, StartsAt}
+use Rattle.name_judge.specs.Clear.{EndsBy, IsBeside, IsLastIn, IsNextIn}
+use Rattle.name_judge.specs.declared.marks.Marks.{Marks}
+
+-- nothing is between two addresses
+clear_of : (ts : List Thing) (from to : ℕ) → All (IsBeside from to) ts → (a : ℕ) → from ≤ a → a < to → All (λ t. ¬ Covers t a) ts
+clear_of ts from to all a behind before = All-weaker (IsBeside from to) (λ t. ¬ Covers t a) (λ t b. b.beside a behind before) ts all
+
+beside_of :
+    (ts : List Thing) (from to : ℕ) → ((a : ℕ) → from ≤ a → a < to → All (λ t. ¬ Covers t a) ts) → All (IsBeside from to) ts
+beside_of ts from to clear = λ i d within. record { beside = λ a behind before. clear a behind before i d within }
+
+if_some : {X : Type 0} (P Q : X → Type 0) (o : Option X) → ((x : X) → P x ↔ Q x) → IfSome o P ↔ IfSome o Q
+if_some P Q None both = (λ h. h, λ h. h)
+if_some P Q (Some x) both = both x
+
+module _ (l : ForeignLink) where
+  end_iff : (end : ℕ) (next : Option ℕ) (v : ℕ) → IsNextIn (things_of l) end next → EndsAt (loads l.image) end next v ↔ IsEnd l end v
+  end_iff end next v are = (to, from)
+    where
+      to : EndsAt (loads l.image) end next v → IsEnd l end v
+      to (inl e) = inl e
+      to (inr b) = inr (record { behind = b.behind; inside = b.inside; clear = clear_of (things_of l) end v ((are.told v).0 b.clear) })
+
+      from : IsEnd l end v → EndsAt (loads l.image) end next v
+      from (inl e) = inl e
+      from (inr b) = inr (record { behind = b.behind; inside = b.inside; clear = (are.told v).1 (beside_of (things_of l) end v b.clear) })
+
+  start_iff :
+      (start last : Option ℕ) (v : ℕ) → IfSome start (λ a. IsLastIn (things_of l) a last) →
+      StartsAt (loads l.image) start last v ↔ IsStart l v start
+  start_iff None last v are = (λ h. h, λ h. h)
+  start_iff (Some start) last v are = (to, from)
+    where
+      to : StartsAt (loads l.image) (Some start) last v → IsStart l v (Some start)
+      to (inl e) = inl e
+      to (inr b) = inr (record { ahead = b.ahead; inside = b.inside; clear = clear_of (things_of l) v start ((are.told v).0 b.clear) })
+
+      from : IsStart l v (Some start) → StartsAt (loads l.image) (Some start) last v
+      from (inl e) = inl e
+      from (inr b) = inr (record { ahead = b.ahead; inside = b.inside; clear = (are.told v).1 (beside_of (things_of l) v start b.clear) })
+
+  span_start : (o : Option Span) (v : ℕ) → SpanStarts (loads l.image) o v ↔ IsAt l v (unwrap_or (start_of o) 0) (start_of o)
+  span_start None v = (λ h. h, λ h. h)
+  span_start (Some s) v = (λ h. h, λ h. h)
+
+  span_end : (o : Option Span) (v : ℕ) → SpanEnds (loads l.image) o v ↔ IsAt l v (end_of o) (start_of o)
+  span_end None v = (λ h. h, λ h. h)
+  span_end (Some s) v = (λ h. h, λ h. h)
+
+  module _ (m : Marks) (marks : AreMarks (loads l.image) (placed_of l) (things_of l) l.certificate.notes m) where
+    all_end : (v : ℕ) → IsEndOfAll m v ↔ IsImageEnd l v
+    all_end v = (
+      λ h. record {
+        behind = subst (λ (n : ℕ). n ≤ v) marks.image_end h.behind;
+        notes =
+            All-weaker (EndsBy v) (λ n. n.address + n.size ≤ v) (λ n e. e.end) l.certificate.notes ((marks.notes_end.told v).0 h.notes);
+        near = subst (λ (n : ℕ). v ≤ n) marks.limit h.near;
+      },
+      λ h. record {
+        behind = subst (λ (n : ℕ). n ≤ v) (sym marks.image_end) h.behind;
+        notes =
+            (marks.notes_end.told v).1
+            (All-weaker (λ n. n.address + n.size ≤ v) (EndsBy v) (λ n e. record { end = e }) l.certificate.notes h.notes);
+        near = subst (λ (n : ℕ). v ≤ n) (sym marks.limit) h.near;
+      },
+    )
+
+    module _ (spans : BTreeMap (Bor (List ℕ)) Span) (are : AreSpans (placed_of l) spans) where
+      bound_iff :
+          (name : List ℕ) (v : ℕ) (b : Bound) →
+          IsBoundBy (loads l.image) m l.certificate.got (found_in spans (named_output name)) v b ↔ IsBoundAt l name v b
+      bound_iff name v ImageStart = (λ h. h, λ h. h)
+      bound_iff name v CodeEnd =
+          subst (λ (n : ℕ). EndsAt (loads l.image) m.code_end m.code_next v ↔ IsEnd l n v) marks.code_end
+          (end_iff m.code_end m.code_next v marks.code_next)
+      bound_iff name v DataEnd =
+          subst (λ (n : ℕ). EndsAt (loads l.image) m.data_end m.data_next v ↔ IsEnd l n v) marks.data_end
+          (end_iff m.data_end m.data_next v marks.data_next)
+      bound_iff name v ZeroStart =
+          subst (λ (o : Option ℕ). StartsAt (loads l.image) m.zero_start m.zero_last v ↔ IsStart l v o) marks.zero_start
+          (start_iff m.zero_start m.zero_last v marks.zero_last)
+      bound_iff name v ImageEnd = all_end v
+      bound_iff name v GotStart = (λ h. h, λ h. h)
+      bound_iff name v OutputStart =
+          let o = found_in spans (named_output name) in
+          subst (λ (s : Option ℕ). SpanStarts (loads l.image) o v ↔ IsAt l v (unwrap_or s 0) s) (are.starts (named_output name)) (span_start o v)
+      bound_iff name v OutputEnd =
+          let o = found_in spans (named_output name) in
+          subst (λ (n : ℕ). SpanEnds (loads l.image) o v ↔ IsAt l v n (start_of_output l (named_output name))) (are.ends (named_output name))
+          (subst (λ (s : Option ℕ). SpanEnds (loads l.image) o v ↔ IsAt l v (end_of o) s) (are.starts (named_output name)) (span_end o v))
+
+      row_to : (row : NameRow) → IsRowRight (parts_of l) m spans row → IsBoundRight l row
+      row_to row r none =
+          (if_some (IsBoundBy (loads l.image) m l.certificate.got (found_in spans (named_output row.name)) row.value)
+          (IsBoundAt l row.name row.value) (bound_of l row.name) (bound_iff row.name row.value)).0
+          (r.right none)
+
+      row_of : (row : NameRow) → IsBoundRight l row → IsRowRight (parts_of l) m spans row
+      row_of row r = record {
+        right = λ none.
+            (if_some (IsBoundBy (loads l.image) m l.certificate.got (found_in spans (named_output row.name)) row.value)
+            (IsBoundAt l row.name row.value) (bound_of l row.name) (bound_iff row.name row.value)).1
+            (r none);
+      }
+
+      pair_to : (first last : List ℕ) → IsPairOne (parts_of l) spans first last → IsPairRight l (pair first last)
+      pair_to first last p none = p.one (are.starts (named_output first) ∙ none)
+
+      pair_of : (first last : List ℕ) → IsPairRight l (pair first last) → IsPairOne (parts_of l) spans first last
+      pair_of first last p = record { one = λ none. p (sym (are.starts (named_output first)) ∙ none) }
+
+      pairs_to : ArePairsOne (parts_of l) spans → All (IsPairRight l) pairs
+      pairs_to p =
+          let a = pair (codes "__init_array_start") (codes "__init_array_end") in
+          let b = pair (codes "__fini_array_start") (codes "__fini_array_end") in
+          let c = pair (codes "__preinit_array_start") (codes "__preinit_array_end") in
+          All-cons (IsPairRight l) a (b ∷ c ∷ []) (pair_to a.first a.last p.init)
+          (All-cons (IsPairRight l) b (c ∷ []) (pair_to b.first b.last p.fini)
+          (All-cons (IsPairRight l) c [] (pair_to c.first c.last p.preinit) (All-nil (IsPairRight l))))
+
+      pairs_of : All (IsPairRight l) pairs → ArePairsOne (parts_of l) spans
+      pairs_of all =
+          let a = pair (codes "__init_array_start") (codes "__init_array_end") in
+          let b = pair (codes "__fini_array_start") (codes "__fini_array_end") in
+          let c = pair (codes "__preinit_array_start") (codes "__preinit_array_end") in
+          let bs = All-tail (IsPairRight l) a (b ∷ c ∷ []) all in
+          let cs = All-tail (IsPairRight l) b (c ∷ []) bs in
+          record {
+            init = pair_of a.first a.last (All-head (IsPairRight l) a (b ∷ c ∷ []) all);
+            fini = pair_of b.first b.last (All-head (IsPairRight l) b (c ∷ []) bs);
+            preinit = pair_of c.first c.last (All-head (IsPairRight l) c [] cs);
+          }
+
+      own : AreNamesBy (parts_of l) m spans ↔ AreNamesRight l
+      own = (
+        λ r. record {
+          bounds = All-weaker (IsRowRight (parts_of l) m spans) (IsBoundRight l) row_to l.certificate.names r.rows;
+          paired = pairs_to r.pairs;
+        },
+        λ r. record {
+          rows = All-weaker (IsBoundRight l) (IsRowRight (parts_of l) m spans) row_of l.certificate.names r.bounds;
+          pairs = pairs_of r.paired;
+        },
+      )
+
+  -- by what the code has of a link
+  pub names_by :
+      (p : Parts) (ts : List Thing) (ns : List NoteLine) (m : Marks) (spans : BTreeMap (Bor (List ℕ)) Span) →
+      parts_of l ≡ p → things_of l ≡ ts → l.certificate.notes ≡ ns → AreMarks (loads p.image) p.placed ts ns m → AreSpans p.placed spans →
+      AreNamesBy p m spans ↔ AreNamesRight l
+  names_by p ts ns m spans parts things notes marks are =
+      let seen =
+      subst (λ (q : Parts). AreMarks (loads q.image) q.placed (things_of l) l.certificate.notes m) (sym parts)
+      (subst (λ (n : List NoteLine). AreMarks (loads p.image) p.placed (things_of l) n m) (sym notes)
+      (subst (λ (t : List Thing). AreMarks (loads p.image) p.placed t ns m) (sym things) marks)) in
+      let told = subst (λ (q : Parts). AreSpans q.placed spans) (sym parts) are in
+      subst (λ (q : Parts). AreNamesBy q m spans ↔ AreNamesRight l) parts (own m seen spans told)

@@ -1,0 +1,106 @@
+-- The values that names of the linker's may have, by a few addresses of a link.
+use Rattle.std.specs.Prelude.{◌≡◌, ◌⊎◌, ℕ, ◌+◌, ◌-◌, ◌*◌, ◌^◌, ◌≤◌, List, None, Option, Some, All, Any, IfSome, codes}
+use Rattle.std.specs.Borrow.{Bor}
+use Rattle.std.specs.BTreeMap.{BTreeMap}
+use Rattle.elf_model.specs.Image.MemoryImage.{Encloses, first_address, loads}
+use Rattle.elf_model.specs.Link.LinkerNames.{named_output}
+use Rattle.elf_model.specs.Link.LinkerValues.{end_of_pieces, is_code_piece, is_file_data, is_loaded_piece, is_zero_data, start_of_pieces}
+use Rattle.elf_model.specs.Link.Meaning.{object_meaning}
+use Rattle.elf_model.specs.Link.Placement.{Placed}
+use Rattle.elf_model.specs.declared.bound.Bound.{Bound}
+use Rattle.elf_model.specs.declared.bound.Bound.TheVariants.{CodeEnd, DataEnd, GotStart, ImageEnd, ImageStart, OutputEnd, OutputStart, ZeroStart}
+use Rattle.elf_model.specs.declared.records.ProgramHeader.{ProgramHeader}
+use Rattle.elf_model.specs.declared.thing.Thing.{Thing}
+use Rattle.check_link.specs.ByName.{found_in}
+use Rattle.check_link.specs.Outputs.{start_of}
+use Rattle.check_link.specs.declared.bounds.Span.{Span}
+use Rattle.judge_model.specs.Certificates.{NameRow, value_of_name}
+use Rattle.judge_model.specs.Names.{memory_end}
+use Rattle.judge_model.specs.declared.certificate.NoteLine.{NoteLine}
+use Rattle.link_fields.specs.Parts.{Parts, bound_of}
+use Rattle.name_judge.specs.Clear.{IsEndOfNotes, IsFrom, IsLastIn, IsNextIn, IsUpTo}
+use Rattle.name_judge.specs.declared.marks.Marks.{Marks}
+
+-- the addresses of a link by which names are judged
+pub record AreMarks (hs : List ProgramHeader) (qs : List Placed) (ts : List Thing) (ns : List NoteLine) (m : Marks) : Type 0 where
+  pub code_end : m.code_end ≡ end_of_pieces is_code_piece qs
+  pub code_next : IsNextIn ts m.code_end m.code_next
+  pub data_end : m.data_end ≡ end_of_pieces is_file_data qs
+  pub data_next : IsNextIn ts m.data_end m.data_next
+  pub zero_start : m.zero_start ≡ start_of_pieces is_zero_data qs
+  pub zero_last : IfSome m.zero_start (λ a. IsLastIn ts a m.zero_last)
+  pub image_end : m.image_end ≡ end_of_pieces is_loaded_piece qs
+  pub notes_end : IsEndOfNotes ns m.notes_end
+  pub limit : m.limit ≡ memory_end hs + 2 * 2 ^ 21
+
+-- at an end, or behind it in its segment and before whatever comes next
+pub record IsBehindMark (hs : List ProgramHeader) (end : ℕ) (next : Option ℕ) (v : ℕ) : Type 0 where
+  pub behind : end ≤ v
+  pub inside : Any (λ h. Encloses h end (v - end)) hs
+  pub clear : IsUpTo v next
+
+abbrev pub EndsAt : List ProgramHeader → ℕ → Option ℕ → ℕ → Type 0
+EndsAt hs end next v = (v ≡ end) ⊎ IsBehindMark hs end next v
+
+-- at no address, or at one of memory
+abbrev pub IsNowhereIn : List ProgramHeader → ℕ → Type 0
+IsNowhereIn hs v = (v ≡ 0) ⊎ Any (λ h. Encloses h v 0) hs
+
+-- at a start, or before it in its segment and behind whatever comes before
+pub record IsAheadMark (hs : List ProgramHeader) (start : ℕ) (last : Option ℕ) (v : ℕ) : Type 0 where
+  pub ahead : v ≤ start
+  pub inside : Any (λ h. Encloses h v (start - v)) hs
+  pub clear : IsFrom v last
+
+abbrev pub StartsAt : List ProgramHeader → Option ℕ → Option ℕ → ℕ → Type 0
+StartsAt hs None last v = IsNowhereIn hs v
+StartsAt hs (Some start) last v = (v ≡ start) ⊎ IsAheadMark hs start last v
+
+pub record IsEndOfAll (m : Marks) (v : ℕ) : Type 0 where
+  pub behind : m.image_end ≤ v
+  pub notes : m.notes_end ≤ v
+  pub near : v ≤ m.limit
+
+-- where the span of an output name begins and ends; anywhere without one
+abbrev pub SpanStarts : List ProgramHeader → Option Span → ℕ → Type 0
+SpanStarts hs None v = IsNowhereIn hs v
+SpanStarts hs (Some s) v = v ≡ s.start
+
+abbrev pub SpanEnds : List ProgramHeader → Option Span → ℕ → Type 0
+SpanEnds hs None v = IsNowhereIn hs v
+SpanEnds hs (Some s) v = v ≡ s.end
+
+-- a value of a bound, by the addresses of a link and the span of the output name of which its name speaks
+abbrev pub IsBoundBy : List ProgramHeader → Marks → Option ℕ → Option Span → ℕ → Bound → Type 0
+IsBoundBy hs m got span v ImageStart = v ≡ first_address hs
+IsBoundBy hs m got span v CodeEnd = EndsAt hs m.code_end m.code_next v
+IsBoundBy hs m got span v DataEnd = EndsAt hs m.data_end m.data_next v
+IsBoundBy hs m got span v ZeroStart = StartsAt hs m.zero_start m.zero_last v
+IsBoundBy hs m got span v ImageEnd = IsEndOfAll m v
+IsBoundBy hs m got span v GotStart = got ≡ Some v
+IsBoundBy hs m got span v OutputStart = SpanStarts hs span v
+IsBoundBy hs m got span v OutputEnd = SpanEnds hs span v
+
+-- the value of a row is one of its name's bound, unless objects define the name
+pub record IsRowRight (p : Parts) (m : Marks) (spans : BTreeMap (Bor (List ℕ)) Span) (row : NameRow) : Type 0 where
+  pub right :
+      object_meaning p.objects row.name ≡ None →
+      IfSome (bound_of p.pieces row.name) (IsBoundBy (loads p.image) m p.got (found_in spans (named_output row.name)) row.value)
+
+-- two names for the beginning and the end of an array that has nothing have one value
+pub record IsPairOne (p : Parts) (spans : BTreeMap (Bor (List ℕ)) Span) (first last : List ℕ) : Type 0 where
+  pub one :
+      start_of (found_in spans (named_output first)) ≡ None →
+      object_meaning p.objects first ≡ None →
+      object_meaning p.objects last ≡ None →
+      IfSome (value_of_name p.rows first) (λ v. IfSome (value_of_name p.rows last) (λ w. v ≡ w))
+
+pub record ArePairsOne (p : Parts) (spans : BTreeMap (Bor (List ℕ)) Span) : Type 0 where
+  pub init : IsPairOne p spans (codes "__init_array_start") (codes "__init_array_end")
+  pub fini : IsPairOne p spans (codes "__fini_array_start") (codes "__fini_array_end")
+  pub preinit : IsPairOne p spans (codes "__preinit_array_start") (codes "__preinit_array_end")
+
+-- the names of a link are right by these
+pub record AreNamesBy (p : Parts) (m : Marks) (spans : BTreeMap (Bor (List ℕ)) Span) : Type 0 where
+  pub rows : All (IsRowRight p m spans) p.rows
+  pub pairs : ArePairsOne p spans

@@ -1,0 +1,11 @@
+//! Whether the names that a linker defines where no object does have values that they may have (ld(1) and the default scripts
+//! of GNU ld): `_etext`, `_end`, `__init_array_start`, `__start_N` and their kin.
+#![tactic(auto)]
+
+mod bounds;
+mod gaps;
+mod marks;
+mod names;
+mod rows;
+
+pub use names::are_names_right;

@@ -1,0 +1,109 @@
+//! The addresses of a link by which the values of its names are judged.
+ghost use Rattle.std.specs.Prelude.{◌≡◌, ◌+◌, ◌*◌, ◌^◌, ◌≤◌, All, IfSome, max};
+ghost use Rattle.elf_model.specs.Image.MemoryImage.{loads};
+ghost use Rattle.check_link.specs.PieceParts.{AreInLimit};
+ghost use Rattle.check_link.specs.Views.{placed_views};
+ghost use Rattle.judge_model.specs.Names.{memory_end};
+ghost use Rattle.name_judge.specs.Bounds.{AreMarks};
+ghost use Rattle.name_judge.specs.Clear.{IsEndOfNotes, IsLastIn, IsLowEnd};
+
+use crate::gaps::{last_in, next_in};
+use check_link::{Part, Placed, end_of, start_of};
+use elf_model::{ProgramHeader, Thing};
+use foreign_image::ForeignImage;
+use judge_model::NoteLine;
+
+/// How far behind the last segment names may be: twice the largest page that linkers align to.
+const MARGIN: u64 = 2 * (1 << 21);
+
+/// The greatest ends of code and of data in the file, and the least address behind each that anything covers; where zeros
+/// begin, and the end of what comes before; the greatest ends of all and of the linker's notes; and the greatest address
+/// that a name may have.
+#[derive(Clone, Copy, Debug)]
+pub struct Marks {
+    pub code_end: u64,
+    pub code_next: Option<u64>,
+    pub data_end: u64,
+    pub data_next: Option<u64>,
+    pub zero_start: Option<u64>,
+    pub zero_last: Option<u64>,
+    pub image_end: u64,
+    pub notes_end: u128,
+    pub limit: u64,
+}
+
+/// The greatest end of notes; 0 without any.
+fn end_of_notes(notes: &[NoteLine]) -> u128
+    ensures { IsEndOfNotes notes.now result }
+{
+    let mut end = 0u128;
+    for note in notes {
+        end = end.max(note.address as u128 + note.size as u128);
+    }
+    end
+}
+
+/// The greater of an end and a segment's.
+fn further(end: u64, h: &ProgramHeader) -> u64
+    requires { IsLowEnd h.now }
+    ensures { result ≡ max end (h.now.p_vaddr + h.now.p_memsz) }
+{
+    end.max(h.p_vaddr + h.p_memsz)
+}
+
+/// The greatest end of segments; 0 without any.
+fn end_of_memory(segments: &[ProgramHeader]) -> u64
+    requires { All IsLowEnd segments.now }
+    ensures end { result ≡ memory_end segments.now }
+    ensures low { result ≤ 2 ^ 47 }
+{
+    let mut end = 0;
+    for h in segments {
+        end = further(end, h);
+    }
+    end
+}
+
+/// Where zeros may begin that begin at an address.
+fn last_before(things: &[Thing], start: Option<u64>) -> Option<u64>
+    ensures { IfSome start (λ a. IsLastIn things.now a result) }
+{
+    match start {
+        Some(at) => last_in(things, at),
+        None => None,
+    }
+}
+
+/// The greatest address that a name may have in an image.
+fn limit_of(image: &ForeignImage<'_>) -> u64
+    ensures { result ≡ memory_end (loads image.now) + 2 * 2 ^ 21 }
+{
+    let _program = image.image();
+    end_of_memory(image.segments()) + MARGIN
+}
+
+/// The addresses of a link's pieces, of all that takes up memory, and of the linker's notes.
+pub fn marks_of(
+    image: &ForeignImage<'_>,
+    placed: &[Placed<'_>],
+    things: &[Thing],
+    notes: &[NoteLine],
+) -> Marks
+    requires { AreInLimit (placed_views placed.now) }
+    ensures { AreMarks (loads image.now) (placed_views placed.now) things.now notes.now result }
+{
+    let code_end = end_of(Part::Code, placed);
+    let data_end = end_of(Part::FileData, placed);
+    let zero_start = start_of(Part::Zeros, placed);
+    Marks {
+        code_end,
+        code_next: next_in(things, code_end),
+        data_end,
+        data_next: next_in(things, data_end),
+        zero_start,
+        zero_last: last_before(things, zero_start),
+        image_end: end_of(Part::Loaded, placed),
+        notes_end: end_of_notes(notes),
+        limit: limit_of(image),
+    }
+}
