@@ -1,5 +1,5 @@
 -- Tests and counts over the numbers up to one, with one more number.
-use Rattle.std.proofs.Common.{◌≡◌, ◌≤◌, ◌+◌, ◌-◌, ◌<◌, ◌∙◌, ◌++◌, ◌∷◌, ◌||◌, [], ℕ, Bool, true, false, cond, List, ap, arith, get_or, length, refl, subst, suc, sym, take, zero}
+use Rattle.std.proofs.Common.{◌≡◌, ◌≤◌, ◌+◌, ◌-◌, ◌<◌, ◌∙◌, ◌∷◌, ◌||◌, [], ℕ, Bool, true, false, cond, List, ap, arith, get_or, length, refl, suc, take, zero}
 use Rattle.std.specs.Prelude.{count_by, sum_by}
 use Rattle.std.specs.List.{list_any, range_with_len}
 use Rattle.std.proofs.lemmas.List.Folds.{list_any-append, list_any_at}
@@ -34,19 +34,20 @@ sum_more f n =
     ∙ (sum_by-append f (range_with_len 0 n) (n ∷ [])
     ∙ ap (λ (k : ℕ). sum_by f (range_with_len 0 n) + k) (sum_by-cons f n [] ∙ add-zero (f n)))
 
-pub sum_further : (f : ℕ → ℕ) (n d : ℕ) → sum_by f (range_with_len 0 n) ≤ sum_by f (range_with_len 0 (d + n))
-sum_further f n zero = omega arith
-sum_further f n (suc d) =
-    let further = sum_further f n d in
-    let more = sum_more f (d + n) in
-    subst (λ (k : ℕ). sum_by f (range_with_len 0 n) ≤ sum_by f (range_with_len 0 k)) (add_one (d + n)) (omega (arith, further, more))
-  where
-    add_one : (k : ℕ) → k + 1 ≡ suc k
-    add_one k = omega arith
+sum_grows : (f : ℕ → ℕ) (n m d : ℕ) → m ≡ n + d → sum_by f (range_with_len 0 n) ≤ sum_by f (range_with_len 0 m)
+sum_grows f n m zero is =
+    let same : n ≡ m = omega (arith, is) in
+    let sums : sum_by f (range_with_len 0 n) ≡ sum_by f (range_with_len 0 m) = ap (λ (k : ℕ). sum_by f (range_with_len 0 k)) same in
+    omega (arith, sums)
+sum_grows f n m (suc d) is =
+    let last : m ≡ n + d + 1 = omega (arith, is) in
+    let more : sum_by f (range_with_len 0 m) ≡ sum_by f (range_with_len 0 (n + d)) + f (n + d) =
+    ap (λ (k : ℕ). sum_by f (range_with_len 0 k)) last ∙ sum_more f (n + d) in
+    let before = sum_grows f n (n + d) d refl in
+    omega (arith, more, before)
 
 pub sum_within : (f : ℕ → ℕ) (n m : ℕ) → n ≤ m → sum_by f (range_with_len 0 n) ≤ sum_by f (range_with_len 0 m)
-sum_within f n m low =
-    subst (λ (k : ℕ). sum_by f (range_with_len 0 n) ≤ sum_by f (range_with_len 0 k)) (omega (arith, low)) (sum_further f n (m - n))
+sum_within f n m low = sum_grows f n m (m - n) (omega (arith, low))
 
 -- one more number is counted, or isn't
 pub count_more : (p : ℕ → Bool) (n : ℕ) → count_by p (range_with_len 0 (n + 1)) ≡ count_by p (range_with_len 0 n) + cond (p n) 1 0

@@ -1,8 +1,8 @@
 -- The bytes of a field that shares none with another one.
-use Rattle.std.proofs.Common.{◌≡◌, ◌<◌, ◌≤◌, ◌+◌, ◌-◌, ◌*◌, ◌∙◌, ◌∷◌, [], ℕ, Bool, true, false, cond, List, Option, None, Some, ap, arith, drop, get_or, length, map, min, refl, sym, take, zero, suc}
-use Rattle.std.specs.Prelude.{Contains, count_by, nat_lt, slice_index, unwrap_or}
-use Rattle.std.specs.List.{filter_map, list_any, range_with_len, slice_get}
-use Rattle.std.specs.Option.{is_some, option_and_then, option_map_or}
+use Rattle.std.proofs.Common.{◌≡◌, ◌<◌, ◌≤◌, ◌+◌, ◌∙◌, ◌∷◌, [], ℕ, Bool, true, false, cond, List, Option, None, Some, ap, arith, drop, get_or, length, refl, sym, take, zero, suc}
+use Rattle.std.specs.Prelude.{Contains, count_by, slice_index}
+use Rattle.std.specs.List.{filter_map}
+use Rattle.std.specs.Option.{option_and_then, option_map_or}
 use Rattle.std.proofs.Common.{subst}
 use Rattle.std.specs.List.{cons_option}
 use Rattle.std.proofs.lemmas.Option.{none-some, same_Some}
@@ -13,13 +13,12 @@ use Rattle.std.proofs.lemmas.List.FromFn.{get_or-map-range_with_len, length-map-
 use Rattle.std.proofs.lemmas.List.Sums.{sum_by-cons}
 use Rattle.byteview.specs.Numbers.{le_bytes}
 use Rattle.byteview.proofs.NumberLaws.{length-le_bytes}
-use Rattle.elf_model.specs.Inputs.ObjectFile.{rela_type}
 use Rattle.elf_model.specs.Link.Loading.{LoadedObject}
 use Rattle.elf_model.specs.Link.Placement.{Placed}
 use Rattle.elf_model.specs.Link.Relocation.{Kind, Relocation, relocation_of}
 use Rattle.elf_model.specs.declared.records.Rela.{Rela}
-use Rattle.debug_image.specs.DebugValues.{Data, Field, byte_under, covers, debug_byte, debug_bytes, entries_for, entry_field, field_byte, field_of, field_with, fields, fields_for, fitting_value, in_range, is_inside, is_shared, shares_bytes, value_by, value_of}
-use Rattle.debug_image.specs.FieldLaws.{FieldsHaveValues, FieldsWithoutData, IsApart, OthersAreOfInput, field_bytes, formula_value, meant_by}
+use Rattle.debug_image.specs.DebugValues.{Data, Field, byte_under, covers, debug_byte, debug_bytes, entries_for, entry_field, field_byte, field_of, field_with, fields, fields_for, fitting_value, in_range, is_inside, is_shared, shares_bytes, value_by}
+use Rattle.debug_image.specs.FieldLaws.{FieldsHaveValues, FieldsWithoutData, IsApart, OthersAreOfInput, field_bytes, formula_value}
 use Rattle.debug_image.proofs.AnySteps.{some_at}
 
 counts : (j : ℕ) (g : Field) (gs : List Field) → count_by (covers j) (g ∷ gs) ≡ cond (covers j g) 1 0 + count_by (covers j) gs

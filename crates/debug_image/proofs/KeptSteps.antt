@@ -1,23 +1,21 @@
 -- Kept groups, with one more group, and with one more member of one.
-use Rattle.std.proofs.Common.{◌≡◌, ◌<◌, ◌+◌, ◌∙◌, ◌++◌, ◌∷◌, [], ℕ, Bool, true, false, cond, ◌&&◌, List, Option, None, Some, ap, append_assoc, arith, length, map, option_map, refl, subst, sym, suc, zero}
-use Rattle.std.specs.Prelude.{◌==◌, find, nat_eq}
+use Rattle.std.proofs.Common.{◌≡◌, ◌+◌, ◌∙◌, ◌++◌, ◌∷◌, [], ℕ, Bool, true, false, cond, ◌&&◌, List, Option, None, Some, ap, append_assoc, arith, length, option_map, refl, subst, sym, suc, zero}
+use Rattle.std.specs.Prelude.{find, nat_eq}
 use Rattle.std.specs.List.{slice_get}
 use Rattle.std.specs.Option.{is_some, option_and_then, option_or}
 use Rattle.std.specs.Str.{bytes_eq}
 use Rattle.std.proofs.lemmas.Bool.{and_from, and_parts, eqb-true, eq-eqb, false≢true, ne_eqb}
-use Rattle.std.proofs.lemmas.Bool.Decides.{nat_tests}
 use Rattle.std.proofs.Math.Nat.{add-zero}
 use Rattle.std.proofs.lemmas.List.{append-nil, length-append}
 use Rattle.std.proofs.lemmas.List.Folds.{find-append}
 use Rattle.std.proofs.lemmas.Option.{none-some, same_Some, slice_get_past, slice_get_within}
 use Rattle.std.proofs.lemmas.Slice.Eq.{bytes_eq-Decides}
 use Rattle.indexmap.specs.IndexMap.{IndexMap, get, get_by, index_map_len}
-use Rattle.elf_model.specs.Inputs.ObjectFile.{Group, groups}
 use Rattle.elf_model.specs.Link.Groups.{is_comdat}
 use Rattle.elf_model.specs.Link.Loading.{LoadedObject}
 use Rattle.elf_model.specs.declared.name.Name.{Name}
 use Rattle.elf_model.specs.declared.references.SectionRef.{SectionRef}
-use Rattle.debug_image.specs.KeptGroups.{ObjectGroup, group_in, groups_from, groups_in, has_size_and_name, is_comdat_of, kept_among, member_of}
+use Rattle.debug_image.specs.KeptGroups.{ObjectGroup, groups_from, groups_in, has_size_and_name, is_comdat_of, kept_among, member_of}
 use Rattle.debug_image.specs.KeptTables.{AreKept, at_number, is_key_of, key_eq, member_among, member_at, member_behind, name_eq}
 use Rattle.debug_image.specs.ObjectSections.{header_in, name_in, section_ref}
 use Rattle.debug_image.specs.declared.kept_groups.KeptGroup.{KeptGroup}

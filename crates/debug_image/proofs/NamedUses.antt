@@ -1,12 +1,11 @@
 -- What an entry uses that names a symbol which isn't LOCAL, by the number of its name.
-use Rattle.std.proofs.Common.{◌≡◌, ◌≤◌, ◌<◌, ◌/◌, ◌∙◌, ◌||◌, ◌⊎◌, ℕ, Bool, true, false, cond, List, [], Option, None, Some, ap, arith, get_or, inl, inr, length, refl, subst, sym}
-use Rattle.std.specs.Prelude.{All, ◌==◌, unwrap_or}
+use Rattle.std.proofs.Common.{◌≡◌, ◌≤◌, ◌<◌, ◌/◌, ◌∙◌, ◌||◌, ◌⊎◌, ℕ, Bool, true, false, cond, List, [], Option, None, Some, ap, arith, get_or, inl, inr, refl, sym}
+use Rattle.std.specs.Prelude.{◌==◌, unwrap_or}
 use Rattle.std.specs.List.{slice_get}
 use Rattle.std.specs.Option.{option_and_then}
 use Rattle.std.proofs.lemmas.Bool.{cases_lt, false≢true}
-use Rattle.std.proofs.lemmas.Bool.Decides.{nat_tests}
-use Rattle.std.proofs.lemmas.Option.{get_or_from_slice_get, none-some, unwrap_or-slice_get}
-use Rattle.elf_model.specs.Inputs.ObjectFile.{IsGoodSymbol, IsObject, name_of_symbol, null_symbol, symbol_name, symbols}
+use Rattle.std.proofs.lemmas.Option.{get_or_from_slice_get, unwrap_or-slice_get}
+use Rattle.elf_model.specs.Inputs.ObjectFile.{IsGoodSymbol, IsObject, name_of_symbol, null_symbol, symbols}
 use Rattle.elf_model.specs.Inputs.Records.{file_header}
 use Rattle.elf_model.specs.Link.Loading.{AreObjects, LoadedObject, is_global_or_weak}
 use Rattle.elf_model.specs.Link.Meaning.{Meaning, Symbol, meaning}

@@ -1,6 +1,5 @@
 -- The LOCAL symbols of objects, from one object to the next.
 use Rattle.std.proofs.Common.{◌≡◌, ◌<◌, ◌+◌, ◌++◌, ◌∙◌, ℕ, List, ap, append_assoc, drop, get_or, length, sym}
-use Rattle.elf_model.specs.Link.Loading.{LoadedObject}
 use Rattle.search.specs.Views.{loaded_view, loaded_views}
 use Rattle.search.specs.declared.loaded.LoadedObject as code
 use Rattle.resolve.proofs.Walks.{next_loaded}

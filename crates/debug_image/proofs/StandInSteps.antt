@@ -1,12 +1,11 @@
 -- What stands for dropped sections, with one more section, one more group, and one more object.
-use Rattle.std.proofs.Common.{◌≡◌, ◌+◌, ◌<◌, ◌≤◌, ◌⊎◌, ◌∙◌, ◌++◌, ◌∷◌, [], ℕ, Bool, true, false, cond, ◌||◌, List, Option, None, Some, ap, arith, get_or, inl, inr, length, map, option_map, refl, subst, suc, sym, take, zero}
-use Rattle.std.specs.Prelude.{◌==◌, find, nat_eq}
+use Rattle.std.proofs.Common.{◌≡◌, ◌+◌, ◌<◌, ◌≤◌, ◌⊎◌, ◌∙◌, ◌++◌, ◌∷◌, [], ℕ, Bool, true, false, cond, ◌||◌, List, Option, None, Some, ap, arith, get_or, inl, inr, length, option_map, refl, subst, suc, sym, take, zero}
+use Rattle.std.specs.Prelude.{find, nat_eq}
 use Rattle.std.specs.BTreeMap.{get}
 use Rattle.std.specs.List.{list_any, slice_get}
 use Rattle.std.specs.Option.{is_some, option_and_then, option_map_or, option_or}
 use Rattle.std.specs.Ordering.{nat_cmp}
 use Rattle.std.proofs.lemmas.Bool.{eq-eqb, eqb-true, false≢true}
-use Rattle.std.proofs.lemmas.List.{length-append, take_more}
 use Rattle.std.proofs.lemmas.List.Folds.{list_any_more}
 use Rattle.std.proofs.lemmas.Option.{none-some, same_Some, slice_get_cases, slice_get_within}
 use Rattle.elf_model.specs.Inputs.ObjectFile.{Group}
@@ -15,7 +14,7 @@ use Rattle.elf_model.specs.declared.references.SectionRef.{SectionRef}
 use Rattle.search.specs.Views.{loaded_view, loaded_views}
 use Rattle.search.specs.declared.loaded.LoadedObject as code
 use Rattle.debug_image.specs.DebugSections.{is_flagged}
-use Rattle.debug_image.specs.KeptGroups.{ObjectGroup, kept_among, lists, member_like, stand_in, stand_in_among}
+use Rattle.debug_image.specs.KeptGroups.{ObjectGroup, lists, member_like, stand_in}
 use Rattle.debug_image.specs.KeptTables.{AreStandIns, IsStandIn, StandInTable, same_option, stand_in_at}
 use Rattle.debug_image.proofs.KeptSteps.{at_behind, find_behind, or_none}
 

@@ -3,7 +3,7 @@ use Rattle.std.specs.Prelude.{◌≡◌, ◌%◌, ◌^◌, Some}
 use Rattle.std.specs.List.{slice_get}
 use Rattle.elf_model.specs.Link.Loading.{LoadedObject}
 use Rattle.elf_model.specs.Link.Placement.{Placed, got_start}
-use Rattle.elf_model.specs.Link.Meaning.{Meaning, meaning_size}
+use Rattle.elf_model.specs.Link.Meaning.{meaning_size}
 use Rattle.elf_model.specs.Link.Relocation.{Relocation, definition_of, relocation_of}
 use Rattle.elf_model.specs.Link.Resolution.{SymbolOf}
 use Rattle.elf_model.specs.declared.records.Rela.{Rela}

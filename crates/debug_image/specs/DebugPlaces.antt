@@ -1,7 +1,6 @@
 -- Where things are that debug data speak of, as the code has them.
-use Rattle.std.specs.Prelude.{◌≡◌, ℕ, ◌%◌, ◌^◌, ◌<◌, true, List, [], Option, Some, length, option_map, slice_index_or, unwrap_or}
+use Rattle.std.specs.Prelude.{◌≡◌, ℕ, ◌%◌, ◌^◌, List, [], Option, Some, length, option_map, slice_index_or, unwrap_or}
 use Rattle.std.specs.List.{slice_get}
-use Rattle.elf_model.specs.Link.Loading.{LoadedObject}
 use Rattle.elf_model.specs.Link.Meaning.{Meaning, meaning, meaning_size}
 use Rattle.elf_model.specs.Link.Pieces.{AreLawfulKinds}
 use Rattle.layout.specs.Placements.{Basis}

@@ -2,16 +2,15 @@
 use Rattle.std.specs.Prelude.{◌≡◌, ℕ, ◌&&◌, Bool, true, cond, List, Option, None, Some, find, length, nat_eq, option_map}
 use Rattle.std.specs.BTreeMap.{BTreeMap}
 use Rattle.std.specs.BTreeMap as tree
-use Rattle.std.specs.List.{list_any, slice_get}
+use Rattle.std.specs.List.{slice_get}
 use Rattle.std.specs.Option.{option_and_then, option_or}
 use Rattle.std.specs.Ordering.{nat_cmp}
 use Rattle.std.specs.Str.{bytes_eq}
 use Rattle.indexmap.specs.IndexMap.{IndexMap, get, index_map_len}
-use Rattle.elf_model.specs.Inputs.ObjectFile.{Group}
 use Rattle.elf_model.specs.Link.Loading.{LoadedObject, is_dropped}
 use Rattle.elf_model.specs.declared.name.Name.{Name}
 use Rattle.elf_model.specs.declared.references.SectionRef.{SectionRef}
-use Rattle.debug_image.specs.KeptGroups.{ObjectGroup, has_size_and_name, kept_among, member_like, member_of, stand_in}
+use Rattle.debug_image.specs.KeptGroups.{ObjectGroup, has_size_and_name, kept_among, member_of, stand_in}
 use Rattle.debug_image.specs.ObjectSections.{section_ref}
 use Rattle.debug_image.specs.declared.kept_groups.KeptGroup.{KeptGroup}
 use Rattle.debug_image.specs.declared.kept_groups.KeptGroups as code

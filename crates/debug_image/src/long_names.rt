@@ -24,10 +24,11 @@ pub fn has_long_names(loaded: &LoadedObject<'_>) -> bool
     let most = loaded.object.bytes().len() as u64;
     let mut size = 0;
     for j in 0..loaded.object.symbols().len() {
-        size += name_size(loaded, j);
-        if size > most {
+        let more = name_size(loaded, j);
+        if more > most - size {
             return true;
         }
+        size += more;
     }
     false
 }

@@ -3,8 +3,7 @@ use Rattle.elf_model.specs.Link.Placement.{Placed}
 use Rattle.resolve.specs.Views.{meaning_views}
 use Rattle.debug_image.specs.DebugImage as image
 use Rattle.debug_image.specs.DebugLayouts.{data_in}
-use Rattle.debug_image.specs.DebugSections.{Chunk}
-use Rattle.debug_image.specs.DebugValues.{Data, all_bytes}
+use Rattle.debug_image.specs.DebugValues.{all_bytes}
 use Rattle.debug_image.specs.DebugViews.{chunk_views}
 use Rattle.debug_image.specs.MappedSections.{AreMapped, in_memory}
 use Rattle.debug_image.specs.PlainImages.{plain_of}

@@ -4,9 +4,8 @@ use Rattle.std.proofs.lemmas.Option.{none-some}
 use Rattle.elf_model.specs.Link.Loading.{LoadedObject}
 use Rattle.elf_model.specs.Link.Meaning.{Meaning, meaning}
 use Rattle.elf_model.specs.Link.Relocation.{definition_of, symbol_at}
-use Rattle.search.specs.Numbers.{name_number}
 use Rattle.search.specs.Views.{loaded_view}
-use Rattle.debug_image.specs.DebugLayouts.{basis_of, data_in}
+use Rattle.debug_image.specs.DebugLayouts.{data_in}
 use Rattle.debug_image.specs.DebugPlaces.{IsUseOf}
 use Rattle.debug_image.proofs.NamedUses.{has_number, used_by}
 use Rattle.debug_image.proofs.debug_values.named_use.Goals as goal

@@ -1,12 +1,10 @@
-use Rattle.std.proofs.Common.{◌≡◌, ◌++◌, ◌∷◌, [], ◌∙◌, List, ap, subst, sym, take, take_all}
-use Rattle.std.specs.Prelude.{All}
+use Rattle.std.proofs.Common.{◌++◌, ◌∷◌, [], ◌∙◌, List, ap, subst, sym, take, take_all}
 use Rattle.elf_model.specs.Link.Loading.{LoadedObject}
 use Rattle.elf_model.specs.Link.Pieces.{Piece}
-use Rattle.elf_model.specs.Link.Placement.{Placed}
 use Rattle.search.specs.Views.{loaded_view, loaded_views}
 use Rattle.search.specs.declared.loaded.LoadedObject as code_object
 use Rattle.debug_image.specs.DataIndexes.{AreAll}
-use Rattle.debug_image.specs.DebugSections.{EndsLow, HaveRoom, joined_all, places_from}
+use Rattle.debug_image.specs.DebugSections.{HaveRoom, joined_all, places_from}
 use Rattle.debug_image.specs.DebugViews.{joined_views, row_views}
 use Rattle.debug_image.proofs.JoinedSteps.{by_flag, joined_from_more, rows_low_more, rows_more, rows_no_room, views_more}
 use Rattle.debug_image.proofs.joined.joined_data.Goals as goal

@@ -1,12 +1,10 @@
-use Rattle.std.proofs.Common.{◌≡◌, ◌+◌, ◌∙◌, Bool, ℕ, List, Option, None, Some, ap, arith, cond, false, refl, sym}
+use Rattle.std.proofs.Common.{◌≡◌, ◌+◌, ◌∙◌, Bool, ℕ, List, Option, None, Some, ap, cond, refl, sym}
 use Rattle.std.specs.Borrow.{Bor}
 use Rattle.std.specs.Option.{is_some, option_copied}
-use Rattle.std.specs.Prelude.{if◌then◌else◌}
 use Rattle.indexmap.specs.IndexMap.{index_map_len}
 use Rattle.search.specs.Views.{loaded_view}
-use Rattle.debug_image.specs.KeptGroups.{ObjectGroup, group_in}
+use Rattle.debug_image.specs.KeptGroups.{group_in}
 use Rattle.debug_image.specs.declared.kept_groups.KeptGroup.{KeptGroup}
-use Rattle.debug_image.specs.declared.kept_groups.KeptGroups as code
 use Rattle.debug_image.specs.KeptTables.{member_behind}
 use Rattle.debug_image.proofs.KeptSteps.{known_group, new_group, plain_group}
 use Rattle.debug_image.proofs.kept_groups.add_group.Goals as goal

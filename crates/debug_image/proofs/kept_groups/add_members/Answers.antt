@@ -1,6 +1,5 @@
-use Rattle.std.proofs.Common.{◌≡◌, ◌∙◌, ℕ, List, Option, ap, get_or, sym, take}
+use Rattle.std.proofs.Common.{◌∙◌, ℕ, List, ap, get_or, sym, take}
 use Rattle.std.proofs.lemmas.List.{take_more}
-use Rattle.elf_model.specs.declared.references.SectionRef.{SectionRef}
 use Rattle.search.specs.Views.{loaded_view}
 use Rattle.debug_image.specs.KeptTables.{member_behind}
 use Rattle.debug_image.proofs.KeptSteps.{member_more}

@@ -1,6 +1,5 @@
-use Rattle.std.proofs.Common.{◌≡◌, ◌+◌, ◌++◌, ◌∷◌, [], ◌∙◌, ℕ, List, ap, arith, get_or, length, subst, sym, take}
-use Rattle.std.proofs.lemmas.List.{length-map, length-take-le, map-append, take_more}
-use Rattle.elf_model.specs.Link.Loading.{LoadedObject}
+use Rattle.std.proofs.Common.{◌≡◌, ◌+◌, ◌++◌, ◌∙◌, ℕ, List, ap, arith, length, subst, sym, take}
+use Rattle.std.proofs.lemmas.List.{length-map, length-take-le}
 use Rattle.search.specs.Views.{loaded_view, loaded_views}
 use Rattle.debug_image.specs.KeptGroups.{ObjectGroup, groups_from, groups_in}
 use Rattle.debug_image.specs.KeptTables.{AreKept}

@@ -1,4 +1,4 @@
-use Rattle.std.proofs.Common.{◌≡◌, ◌+◌, ◌%◌, ◌^◌, ◌∙◌, Bool, ℕ, List, ap, arith, cond, drop, sym}
+use Rattle.std.proofs.Common.{◌+◌, ◌%◌, ◌^◌, ◌∙◌, Bool, ℕ, List, ap, arith, cond, drop, sym}
 use Rattle.std.proofs.Math.Nat.{mod-add-mod}
 use Rattle.elf_model.specs.Link.Loading.{LoadedObject}
 use Rattle.resolve.proofs.Walks.{next_loaded}

@@ -1,4 +1,4 @@
-use Rattle.std.proofs.Common.{◌∙◌, ℕ, List, None, Some, ap, cond, get_or, take, take_all}
+use Rattle.std.proofs.Common.{◌∙◌, ℕ, List, None, Some, ap, cond, take_all}
 use Rattle.std.specs.Prelude.{nat_eq}
 use Rattle.std.specs.List.{list_any}
 use Rattle.std.specs.BTreeMap.{get}

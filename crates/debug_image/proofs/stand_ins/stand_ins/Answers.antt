@@ -1,10 +1,7 @@
-use Rattle.std.proofs.Common.{◌≡◌, ◌+◌, ◌∷◌, [], ◌∙◌, ℕ, List, Some, ap, get_or, length, sym}
+use Rattle.std.proofs.Common.{◌+◌, ◌∷◌, [], ◌∙◌, ℕ, List, ap, length}
 use Rattle.std.proofs.lemmas.List.{length-append}
-use Rattle.std.proofs.lemmas.Option.{slice_get-get_or}
 use Rattle.std.specs.List.{slice_get}
-use Rattle.elf_model.specs.Link.Loading.{LoadedObject}
 use Rattle.search.specs.Views.{loaded_view, loaded_views}
-use Rattle.search.specs.declared.loaded.LoadedObject as code
 use Rattle.debug_image.specs.KeptGroups.{groups_from}
 use Rattle.debug_image.specs.KeptTables.{StandInTable}
 use Rattle.debug_image.proofs.StandInSteps.{object_at, tables_more}
