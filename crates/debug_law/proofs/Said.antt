@@ -22,7 +22,7 @@ use Rattle.debug_image.specs.Symbols.{Laid, absolute_row, address_of, block_entr
 use Rattle.debug_image.specs.Tables.{HeaderRow, Row}
 use Rattle.debug_image.proofs.MappedRuns.{own_sections, own_sections-each}
 use Rattle.debug_law.proofs.JoinedNames.{both}
-use Rattle.debug_law.proofs.LocalRows.{all_given}
+use Rattle.debug_law.proofs.LocalRows.{all_given, all_local}
 use Rattle.debug_law.proofs.ReadTables.{is_symtab, unnamed_header, unnamed_row}
 
 -- headers
