@@ -1,1 +1,2 @@
 pub mod Nops
+pub mod Padded

@@ -1,30 +1,32 @@
 //! Runs of instructions that do nothing.
 ghost use Rattle.std.specs.Prelude.{◌↔◌, IsTrue};
+ghost use Rattle.code_fill.specs.Padded.{whole};
 ghost use Rattle.judge_model.specs.Fill.{AreNops, IsCodeFill};
 
 use crate::nops::{filler_at, nop_at};
-use byteview::all_byte;
+use crate::padded::{are_zeros, behind, is_empty};
+use loader_model::Run;
 
-/// Whether bytes are whole instructions that do nothing, one behind the other. Takes time by their number.
-pub fn are_nops(bytes: &[u8]) -> bool
-    ensures { IsTrue result ↔ AreNops bytes.now }
+/// Whether bytes, and the zeros behind them, are whole instructions that do nothing, one behind the other. Takes time by the number
+/// of the bytes.
+pub fn are_nops(run: Run<'_>) -> bool
+    ensures { IsTrue result ↔ AreNops (whole run.entry) }
 {
-    let mut rest = bytes;
+    let mut rest = run;
     while let Some(len) = nop_at(rest) {
-        let (_nop, behind) = rest.split_at(len);
-        rest = behind;
+        rest = behind(rest, len);
     }
-    rest.is_empty()
+    is_empty(rest)
 }
 
-/// Whether bytes are whole instructions that do nothing and breakpoints, and then zeros. Takes time by their number.
-pub fn is_code_fill(bytes: &[u8]) -> bool
-    ensures { IsTrue result ↔ IsCodeFill bytes.now }
+/// Whether bytes, and the zeros behind them, are whole instructions that do nothing and breakpoints, and then zeros. Takes time by
+/// the number of the bytes.
+pub fn is_code_fill(run: Run<'_>) -> bool
+    ensures { IsTrue result ↔ IsCodeFill (whole run.entry) }
 {
-    let mut rest = bytes;
+    let mut rest = run;
     while let Some(len) = filler_at(rest) {
-        let (_filler, behind) = rest.split_at(len);
-        rest = behind;
+        rest = behind(rest, len);
     }
-    all_byte(rest, 0)
+    are_zeros(rest)
 }

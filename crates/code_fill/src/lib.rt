@@ -3,5 +3,7 @@
 
 mod fillers;
 mod nops;
+mod padded;
 
 pub use fillers::{are_nops, is_code_fill};
+pub use padded::are_zeros;

@@ -6,3 +6,4 @@ pub mod Lists
 pub mod OwnRelocations
 pub mod PartitionPoints
 pub mod Rows
+pub mod WholePieces

@@ -1,8 +1,8 @@
 -- Spans have the addresses of the things of which they are made, and stand apart.
-use Rattle.std.proofs.Common.{◌≡◌, ℕ, suc, ◌+◌, ◌^◌, ◌<◌, ◌≤◌, ◌⊎◌, inl, inr, Bool, true, false, cond, List, [], ◌∷◌, length, get_or, refl, sym, subst, arith}
+use Rattle.std.proofs.Common.{◌≡◌, ℕ, suc, ◌+◌, ◌^◌, ◌<◌, ◌≤◌, ◌⊎◌, inl, inr, Bool, true, false, cond, List, [], ◌∷◌, length, get_or, refl, sym, ap, subst, ◌∙◌, arith}
 use Rattle.std.specs.Prelude.{◌↔◌, All, AllPairs, Any, Contains, IsPermutation, IsTrue, max, nat_le, nat_lt}
 use Rattle.std.specs.List.Sorted.{IsNonDecreasingBy}
-use Rattle.std.proofs.lemmas.Bool.{leb-false, leb-true, ltb-false, ltb-true}
+use Rattle.std.proofs.lemmas.Bool.{false≢true, leb-false, leb-true, ltb-false, ltb-true}
 use Rattle.std.proofs.lemmas.List.{get_or_default}
 use Rattle.std.proofs.lemmas.List.Elements.{All-cons, All-head, All-nil, All-tail, All-weaker}
 use Rattle.std.proofs.lemmas.List.Kept.{AllPairs-cons}
@@ -239,6 +239,38 @@ module _ (at i : ℕ) (spans : List Span) (some : All (λ s. s.from < s.to) span
           by : (next.to ≤ at) ⊎ (at + 8 ≤ next.from) → at + 8 ≤ next.from
           by (inl early) = absurd (omega (arith, early, not_yet))
           by (inr there) = there
+
+-- an address is in a span where it is in the first one that ends behind it
+module _ (at i : ℕ) (spans : List Span) (rising : AllPairs IsSpanBefore spans) (ended : (k : ℕ) (d : Span) → k < i → (get_or spans k d).to ≤ at) where
+  pub has_at :
+      (next : Span) (b : Bool) → i < length spans → ((d : Span) → next ≡ get_or spans i d) → at < next.to →
+      IsTrue b ↔ (next.from ≤ at) → IsTrue b ↔ Any (IsInSpan at) spans
+  has_at next b low is not_yet same = (λ e. (i, next, low, sym (is next), (same.0 e, not_yet)), λ has. same.1 (begun has))
+    where
+      begun : Any (IsInSpan at) spans → next.from ≤ at
+      begun (k, s, below, there, p) = by (below_or_not k i) (below_or_not i k)
+        where
+          by : (k < i) ⊎ (i ≤ k) → (i < k) ⊎ (k ≤ i) → next.from ≤ at
+          by (inl before) other =
+              let e = subst (λ (t : Span). t.to ≤ at) there (ended k s before) in let q = p.1 in absurd (omega (arith, e, q))
+          by (inr behind_it) (inl later) =
+              let r = subst (λ (t : Span). t.to < (get_or spans k s).from) (sym (is s)) (rising i k s later below) in
+              let f = subst (λ (t : Span). next.to < t.from) there r in
+              let q = p.0 in
+              absurd (omega (arith, f, q, not_yet))
+          by (inr behind_it) (inr up_to) =
+              let e : k ≡ i = omega (arith, behind_it, up_to) in
+              let same_span : s ≡ next = sym there ∙ (ap (λ (j : ℕ). get_or spans j s) e ∙ sym (is s)) in
+              subst (λ (t : Span). t.from ≤ at) same_span p.0
+
+pub has_none :
+    (at i : ℕ) (spans : List Span) → ((k : ℕ) (d : Span) → k < i → (get_or spans k d).to ≤ at) → length spans ≤ i →
+    IsTrue false ↔ Any (IsInSpan at) spans
+has_none at i spans ended end = (λ e. absurd (false≢true e), λ has. absurd (never has))
+  where
+    never : Any (IsInSpan at) spans → ⊥
+    never (k, s, below, there, p) =
+        let e = subst (λ (t : Span). t.to ≤ at) there (ended k s (omega (arith, below, end))) in let q = p.1 in omega (arith, e, q)
 
 -- things have none of the eight bytes exactly where their spans have none
 pub clear_of : (at : ℕ) (things : List Thing) (spans : List Span) → AreSpansOf things spans → at + 8 < 2 ^ 64 → All (IsApartFrom at) spans ↔ All (IsClear at) things

@@ -1,6 +1,5 @@
 //! Slots of a GOT, which a field tells the place of.
-ghost use Rattle.std.specs.Prelude.{◌≡◌, ◌↔◌, ◌+◌, ◌<◌, ◌≤◌, ◌%◌, ◌^◌, ◌+ℤ◌, ◌-ℤ◌, ℕ, All, AllPairs, Any, IsTrue, length, pos, slice_index_or};
-ghost use Rattle.std.specs.List.Sorted.{IsNonDecreasingBy};
+ghost use Rattle.std.specs.Prelude.{◌≡◌, ◌↔◌, ◌+◌, ◌<◌, ◌≤◌, ◌%◌, ◌^◌, ◌+ℤ◌, ◌-ℤ◌, ℕ, All, AllPairs, Any, IsTrue, pos};
 ghost use Rattle.elf_model.specs.Image.MemoryImage.{loads};
 ghost use Rattle.elf_model.specs.Link.Relocation.{modulo_64};
 ghost use Rattle.judge_model.specs.Fields.{IsInFile};
@@ -8,7 +7,7 @@ ghost use Rattle.memory_judge.specs.Slots.{IsApartFrom, IsClear, IsSlotAmong};
 ghost use Rattle.memory_judge.specs.Spans.{IsSpanBefore};
 
 use crate::numbers::holds_number;
-use crate::spans::{Span, Taken};
+use crate::spans::{Span, Taken, count_ended};
 use elf_model::ProgramHeader;
 use foreign_image::ForeignImage;
 
@@ -36,17 +35,6 @@ fn is_in_some_file(at: u64, segments: &[ProgramHeader]) -> bool
     ensures { IsTrue result ↔ Any (λ h. IsInFile h at 8) segments.now }
 {
     segments.iter().any(|h| is_in_file(at, h))
-}
-
-/// How many of the spans end at or below an address.
-fn count_ended(spans: &[Span], at: u64) -> usize
-    requires { IsNonDecreasingBy (λ s. s.to) spans.now }
-    ensures within { result ≤ length spans.now }
-    ensures ended { (k : ℕ) (d : Span) → k < result → (slice_index_or spans.now k d).to ≤ at }
-    ensures not_yet { (k : ℕ) (d : Span) →
-        result ≤ k → k < length spans.now → at < (slice_index_or spans.now k d).to }
-{
-    spans.partition_point(|s| s.to <= at)
 }
 
 /// Whether a span begins behind the eight bytes from an address on.

@@ -1,7 +1,7 @@
 //! The addresses that things take up, as spans that stand apart: by these an address is found by bisection.
-ghost use Rattle.std.specs.Prelude.{◌≡◌, ◌++◌, [], IfOk, IsPermutation, OnOk};
+ghost use Rattle.std.specs.Prelude.{◌≡◌, ◌↔◌, ◌++◌, ◌<◌, ◌≤◌, ℕ, [], All, AllPairs, Any, IfOk, IsPermutation, IsTrue, OnOk, length, slice_index_or};
 ghost use Rattle.std.specs.List.Sorted.{IsNonDecreasingBy};
-ghost use Rattle.memory_judge.specs.Spans.{AreSpansOf, end_of, merged, with_span};
+ghost use Rattle.memory_judge.specs.Spans.{AreSpansOf, IsInSpan, IsSpanBefore, end_of, merged, with_span};
 
 use elf_model::Thing;
 use loader_model::by_address;
@@ -67,6 +67,35 @@ pub fn spans_of(alloc: Global, things: &[Thing]) -> Result<Vec<Span>, AllocError
 {
     let sorted = by_address(alloc, things)?;
     merged(alloc, &sorted)
+}
+
+/// How many of the spans end at or below an address.
+pub fn count_ended(spans: &[Span], at: u64) -> usize
+    requires { IsNonDecreasingBy (λ s. s.to) spans.now }
+    ensures within { result ≤ length spans.now }
+    ensures ended { (k : ℕ) (d : Span) → k < result → (slice_index_or spans.now k d).to ≤ at }
+    ensures not_yet { (k : ℕ) (d : Span) →
+        result ≤ k → k < length spans.now → at < (slice_index_or spans.now k d).to }
+{
+    spans.partition_point(|s| s.to <= at)
+}
+
+fn begins_by(span: &Span, at: u64) -> bool
+    ensures { IsTrue result ↔ (span.now.from ≤ at) }
+{
+    span.from <= at
+}
+
+/// Whether an address lies in one of spans that rise apart. It takes the logarithm of their number.
+pub fn has_address(spans: &[Span], at: u64) -> bool
+    requires some { All (λ s. s.from < s.to) spans.now }
+    requires rising { AllPairs IsSpanBefore spans.now }
+    ensures { IsTrue result ↔ Any (IsInSpan at) spans.now }
+{
+    match spans.get(count_ended(spans, at)) {
+        Some(next) => begins_by(next, at),
+        None => false,
+    }
 }
 
 /// Things that take up memory, and the spans of their addresses.

@@ -1,10 +1,11 @@
 use Rattle.std.proofs.Common.{length}
 use Rattle.std.specs.Prelude.{◌↔◌}
+use Rattle.code_fill.specs.Padded.{whole}
 use Rattle.judge_model.specs.Fill.{IsCodeFill}
 use Rattle.code_fill.proofs.fillers.is_code_fill.Given as goal
 
 abbrev pub decreases-loop-len : goal.decreases-loop-len
-decreases-loop-len l = length l.rest
+decreases-loop-len l = length (whole l.rest)
 
 abbrev pub invariant-loop-len : goal.invariant-loop-len
-invariant-loop-len l = IsCodeFill l.bytes ↔ IsCodeFill l.rest
+invariant-loop-len l = IsCodeFill (whole l.run) ↔ IsCodeFill (whole l.rest)

@@ -3,7 +3,7 @@ use Rattle.std.specs.Prelude.{nat_le}
 use Rattle.std.proofs.lemmas.Bool.{leb-false, leb-true}
 use Rattle.std.proofs.lemmas.List.Sorted.{IsPartitionPoint-from_clause, IsPartitionedBy-leb}
 use Rattle.memory_judge.specs.declared.spans.Span.{Span}
-use Rattle.memory_judge.proofs.slots.count_ended.Goals as goal
+use Rattle.memory_judge.proofs.spans.count_ended.Goals as goal
 
 pub returns-clause-ended : goal.returns-clause-ended
 returns-clause-ended c = λ k d below.

@@ -1,0 +1,3 @@
+pub mod ExplainedGaps
+pub mod FillLaws
+pub mod GapLaws
