@@ -12,12 +12,6 @@ use Rattle.judge_model.specs.Plans.{in_script}
 use Rattle.header_judge.specs.Rights.{AreRightBy, HasPhysical, HasStack, IsApart, IsOfLink, IsSpared, SparesAll, may_execute}
 
 module _ (l : ForeignLink) where
-  own_physical : Bool
-  own_physical = in_script (λ t. t.physical) l.plan
-
-  own_may : Bool
-  own_may = may_execute l.plan.executes_stack (objects_of l)
-
   spares_of : (h : ProgramHeader) → SparesAll (placed_of l) h → ProtectsNone l h
   spares_of h s relro =
       All-weaker (IsSpared h) (λ (q : Placed). is_written_late q ≡ true → IsApart h q) (λ q p. p.spared) (placed_of l) (s.spares relro)
