@@ -14,7 +14,7 @@ fn digit_count(field: &[u8]) -> usize
 }
 
 /// Whether there are no bytes but spaces.
-fn are_spaces(bytes: &[u8]) -> bool
+pub fn are_spaces(bytes: &[u8]) -> bool
     ensures { result ≡ list_all archive.is_space bytes.now }
 {
     bytes.iter().all(|b| *b == b' ')

@@ -5,6 +5,7 @@ ghost use Rattle.elf_model.specs.Inputs.ArchiveFile.{is_readable, next_header, s
 ghost use Rattle.bad_members.specs.BadMembers.{IsBadMember};
 
 use crate::fields::number_in;
+use crate::names::is_misnamed;
 use byteview::{View, equal_run};
 use elf_model::ArFault;
 
@@ -76,8 +77,8 @@ fn is_fault(found: ArFault, fault: ArFault) -> bool
     found == fault
 }
 
-/// The offset of the header of the first member that can't be read or doesn't lie in a file, where it has a fault. None where it
-/// has another one, or there is none.
+/// The offset of the header of the first member that can't be read, doesn't lie in a file, or is misnamed (it is an index and not
+/// the first, or has no name), where that is a fault. None where it has another one, or there is none.
 pub fn bad_member(bytes: &[u8], fault: ArFault) -> Option<u64>
     ensures { IfSome result (IsBadMember bytes.now fault) }
 {
@@ -85,7 +86,12 @@ pub fn bad_member(bytes: &[u8], fault: ArFault) -> Option<u64>
     let mut at = 8;
     while at < file.len() {
         match next_after(&file, at) {
-            Ok(next) => at = next,
+            Ok(next) => {
+                if is_misnamed(&file, at, fault) {
+                    return Some(at as u64);
+                }
+                at = next;
+            }
             Err(found) if is_fault(found, fault) => return Some(at as u64),
             Err(_) => return None,
         }

@@ -1,4 +1,4 @@
-use Rattle.std.proofs.Common.{ℕ, List, arith, refl, subst}
+use Rattle.std.proofs.Common.{inl, inr, ℕ, List, arith, refl, subst}
 use Rattle.elf_model.specs.declared.faults.ArFault.{ArFault}
 use Rattle.ar_index.specs.Reading.{IsFaultAt}
 use Rattle.bad_members.specs.BadMembers.{IsBadMember}
@@ -20,5 +20,14 @@ returns-in-Err c =
     let at = c.loop-at.at in
     subst (λ (bytes : List ℕ). IsBadMember bytes c.args.fault at) c.new-file.ensures (record {
       there = here file at c.loop-at.invariant (omega (arith, c.loop-at-test.true, c.len.ensures));
-      bad = subst (λ (f : ArFault). IsFaultAt file at f) (c.if-is_fault.ensures refl) c.in-Err.ensures.fault;
+      bad = inl (subst (λ (f : ArFault). IsFaultAt file at f) (c.if-is_fault.ensures refl) c.in-Err.ensures.fault);
+    })
+
+pub returns-then-is_misnamed : goal.returns-then-is_misnamed
+returns-then-is_misnamed c =
+    let file = c.new-file.result in
+    let at = c.loop-at.at in
+    subst (λ (bytes : List ℕ). IsBadMember bytes c.args.fault at) c.new-file.ensures (record {
+      there = here file at c.loop-at.invariant (omega (arith, c.loop-at-test.true, c.len.ensures));
+      bad = inr (c.if-is_misnamed.ensures refl);
     })
