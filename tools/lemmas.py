@@ -83,7 +83,7 @@ LAYERS = {
         "The link and its refusals": "FinalRefusals Links OwnUnfit Tabled Values",
         "The own map": "DropLines OwnCommons OwnMaps OwnSpelled PlaceLines SlotLines SpelledMaps Spellings SymbolLines",
         "Its text": "Behind OwnTexts",
-        "The definitions in order": "InOrderLaws LevelLaws Listings NameKeyLaws SortedOnce",
+        "The definitions in order": "Beginnings InOrderLaws LevelLaws Listings NameKeyLaws SortedOnce",
     },
     "own_link": {
         "The image file": "Bytes HeaderTable ImageOwn ImageRead ImageRight SegmentHeaders",

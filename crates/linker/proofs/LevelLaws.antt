@@ -1,5 +1,5 @@
 -- Names that are alike up to an offset are sorted by what is behind it: by the numbers of the next bytes, and those of one number further.
-use Rattle.std.proofs.Common.{◌≡◌, ◌∙◌, ◌≢◌, ◌⊎◌, inl, inr, ℕ, zero, suc, ◌+◌, ◌-◌, ◌*◌, ◌<◌, ◌≤◌, Bool, true, false, true≢false, List, [], ◌∷◌, ◌++◌, append_assoc, drop, drop_at, get_or, length, ltb, map, refl, sym, take, take_at, ap, subst, arith, set}
+use Rattle.std.proofs.Common.{◌≡◌, ◌∙◌, ◌≢◌, ◌⊎◌, inl, inr, ℕ, zero, suc, ◌+◌, ◌-◌, ◌<◌, ◌≤◌, Bool, true, false, true≢false, List, [], ◌∷◌, ◌++◌, append_assoc, drop, drop_at, get_or, length, ltb, refl, sym, take, take_at, ap, subst, arith, set}
 use Rattle.std.specs.Prelude.{All, AllPairs, IsPermutation}
 use Rattle.std.specs.List.Sorted.{IsNonDecreasingBy, IsSortedBy, IsSortedByKey}
 use Rattle.std.specs.Cmp.Lexicographic.{slice_cmp}
@@ -19,7 +19,7 @@ use Rattle.std.proofs.lemmas.List.Elements.{All-append, All-cons, All-map, All-n
 use Rattle.std.proofs.lemmas.List.Sorted.{All-permutation, IsPermutation-append_left, IsPermutation-append_right, IsPermutation-map, IsPermutation-trans, ranks_by}
 use Rattle.std.proofs.lemmas.Map.Lookups.{exact_bytes}
 use Rattle.elf_model.proofs.Listed.{All-parts, All-unmap}
-use Rattle.elf_model.proofs.Pairs.{AllPairs-append, AllPairs-nil, AllPairs-parts}
+use Rattle.elf_model.proofs.Pairs.{AllPairs-append, AllPairs-nil}
 use Rattle.linker.specs.NameKeys.{AreAlike, IsInOrder, IsKeyed, IsNotAfter, IsOrderBehind, IsOrderOf, IsSortedRun, behind_of, held_names, key_at, name_key, name_of, positions, run_in}
 use Rattle.linker.specs.declared.name_order.Keyed.{Keyed}
 use Rattle.linker.specs.declared.name_order.Names.{Names}

@@ -1,3 +1,4 @@
+pub mod Beginnings
 pub mod DropLines
 pub mod Values
 pub mod Behind

@@ -1,7 +1,7 @@
 -- The place and drop lines of the own map fit: numbers that are read from bytes are below 2 ^ 64, parts of bytes are bytes,
 -- and the own layout ends at or below 2 ^ 46.
-use Rattle.std.proofs.Common.{◌≡◌, ℕ, zero, suc, ◌+◌, ◌*◌, ◌<◌, ◌≤◌, ◌^◌, true, false, Bool, cond, List, [], ◌∷◌, ◌++◌, length, take, drop, slice_index, map, refl, sym, subst, arith}
-use Rattle.std.specs.Prelude.{All, Contains, Option, None, Some, option_map, unwrap_or, find}
+use Rattle.std.proofs.Common.{◌≡◌, ℕ, zero, suc, ◌+◌, ◌*◌, ◌<◌, ◌≤◌, ◌^◌, true, false, Bool, cond, List, [], ◌∷◌, length, drop, slice_index, map, refl, subst, arith}
+use Rattle.std.specs.Prelude.{All, Option, None, Some, option_map, unwrap_or, find}
 use Rattle.std.specs.List.{position_or_len, range_with_len, slice_get}
 use Rattle.std.proofs.Math.Nat.{pow-le-pow_right}
 use Rattle.std.proofs.lemmas.List.{length-take}
@@ -13,7 +13,7 @@ use Rattle.byteview.proofs.NumberLaws.{le-below}
 use Rattle.elf_model.specs.Own.ImageFile.{place_row_of}
 use Rattle.elf_model.specs.Link.Loading.{AreObjects, LoadedObject}
 use Rattle.elf_model.specs.Image.MapText.{AreBytes, FitsDrop, FitsPlace}
-use Rattle.elf_model.specs.Inputs.ObjectFile.{IsObject, name_of_section, section_name, section_strings, sections}
+use Rattle.elf_model.specs.Inputs.ObjectFile.{IsObject, name_of_section, section_strings, sections}
 use Rattle.elf_model.specs.Own.OwnLayout.{IsNotTooLarge, own_address, own_placed, placed_end}
 use Rattle.elf_model.specs.Link.Pieces.{Piece, kept_sections, piece_of}
 use Rattle.elf_model.specs.Link.Placement.{Placed, is_of_section}

@@ -1,6 +1,6 @@
 -- The definitions that have a line can be listed in the order of their names, and the own map of that list can be spelled.
 use Rattle.std.proofs.Common.{◌≡◌, ◌∙◌, ℕ, ◌+◌, ◌<◌, ◌^◌, Bool, true, false, List, ◌++◌, ap, arith, get_or, length, map, refl, subst, sym}
-use Rattle.std.specs.Prelude.{All, IsPermutation, option_to_list}
+use Rattle.std.specs.Prelude.{All, option_to_list}
 use Rattle.std.specs.Cmp.Lexicographic.{slice_cmp}
 use Rattle.std.specs.Ordering.{is_lt, nat_cmp, ordering_reverse}
 use Rattle.std.specs.declared.cmp.Ordering.{Ordering}

@@ -36,6 +36,10 @@ behind_of n offset k = drop offset (name_of n k.position)
 abbrev pub positions : List Keyed → List ℕ
 positions ks = map (λ k. k.position) ks
 
+-- the bytes of a name from an offset on begin with a text
+abbrev pub IsBegun : Names → ℕ → List ℕ → Keyed → Type 0
+IsBegun n offset front k = take (length front) (behind_of n offset k) ≡ front
+
 -- the number of a name is made of its bytes from an offset on
 pub record IsKeyed (n : Names) (offset : ℕ) (k : Keyed) : Type 0 where
   pub key : k.key ≡ name_key (behind_of n offset k)

@@ -1,10 +1,10 @@
 //! The order of the names of definitions. Sorting moves small keys, a number that is made of seven bytes of a name and its position;
 //! only names that have one number there are read again, for the next seven bytes.
-ghost use Rattle.std.specs.Prelude.{◌≡◌, ◌≢◌, ◌<◌, ◌≤◌, ◌*◌, All, IfOk, drop, length, slice_get};
+ghost use Rattle.std.specs.Prelude.{◌≡◌, ◌≢◌, ◌<◌, ◌≤◌, ◌+◌, ◌^◌, ℕ, All, IfOk, List, drop, length, slice_get, take};
 ghost use Rattle.std.specs.Cmp.Lexicographic.{slice_cmp};
 ghost use Rattle.std.specs.List.{range_with_len};
 ghost use Rattle.std.specs.Ordering.{nat_cmp};
-ghost use Rattle.linker.specs.NameKeys.{AreAlike, IsKeyed, IsOrderOf, IsSortedRun, behind_of, digit, held_names, key_at, name_key, name_of, positions, run_in};
+ghost use Rattle.linker.specs.NameKeys.{AreAlike, IsBegun, IsKeyed, IsOrderOf, IsSortedRun, behind_of, digit, held_names, key_at, name_key, name_of, positions, run_in};
 
 use elf_model::Bound;
 use resolve::Definitions;
@@ -95,6 +95,9 @@ fn key(name: &[u8]) -> u64
 /// How many numbers in turn are made of names that begin alike, before the bytes behind these are compared.
 const MOST_LEVELS: usize = 32;
 
+/// The last offset behind which numbers are made.
+const MOST_OFFSET: usize = 1 << 62;
+
 /// How many names are compared at once.
 const FEW: usize = 6;
 
@@ -150,14 +153,61 @@ fn sort_few(names: Names<'_, '_>, run: &mut [Keyed], offset: usize)
     run.sort_unstable_by(|a, b| compare(names, offset, a, b));
 }
 
-/// Sorts names that are alike up to a level: by the number of their bytes there, and those of one number at the next level.
-fn sort_level(names: Names<'_, '_>, run: &mut [Keyed], level: usize)
-    requires low { level ≤ 32 }
-    requires alike { AreAlike names (7 * level) (positions run.old) }
+/// The part of a text with which a name begins.
+fn shared<'a>(front: &'a [u8], name: &[u8]) -> &'a [u8]
+    ensures front { take (length result.now) front.entry.now ≡ result.now }
+    ensures name { take (length result.now) name.now ≡ result.now }
+{
+    if name.starts_with(front) {
+        return front;
+    }
+    let most = front.len().min(name.len());
+    for k in 0..most {
+        if front[k] != name[k] {
+            let (same, _) = front.split_at(k);
+            return same;
+        }
+    }
+    let (same, _) = front.split_at(most);
+    same
+}
+
+/// How many bytes from an offset on all names have in common.
+fn common(names: Names<'_, '_>, offset: usize, run: &[Keyed]) -> usize
+    ensures begin { (front : List ℕ) × (length front ≡ result)
+        × All (IsBegun names.entry offset front) run.now }
+    ensures short { result < 2 ^ 63 }
+{
+    let [first, ..] = run else {
+        return 0;
+    };
+    let mut front = behind(name_at(names, first.position), offset);
+    for keyed in run {
+        front = shared(front, behind(name_at(names, keyed.position), offset));
+    }
+    front.len()
+}
+
+/// From where on names are compared next that are alike up to an offset: where they were all of a run, behind what they have in
+/// common too.
+fn next_offset(names: Names<'_, '_>, alike: &[Keyed], offset: usize, were_all: bool) -> usize
+    requires { offset ≤ 2 ^ 62 + 7 }
+    ensures { AreAlike names.entry offset (positions alike.now)
+        → AreAlike names.entry result (positions alike.now) }
+{
+    if !were_all {
+        return offset;
+    }
+    offset + common(names, offset, alike)
+}
+
+/// Sorts names that are alike up to an offset: by the number of their bytes there, and those of one number behind these, for so
+/// many levels.
+fn sort_level(names: Names<'_, '_>, run: &mut [Keyed], offset: usize, levels: usize)
+    requires { AreAlike names offset (positions run.old) }
     ensures { IsSortedRun names.entry run.old run.new }
 {
-    let offset = DIGITS * level;
-    if run.len() <= FEW || level >= MOST_LEVELS {
+    if run.len() <= FEW || levels == 0 || offset > MOST_OFFSET {
         sort_few(names, run, offset);
         return;
     }
@@ -166,9 +216,11 @@ fn sort_level(names: Names<'_, '_>, run: &mut [Keyed], level: usize)
     let mut from = 0;
     while from < run.len() {
         let to = run_end(run, from);
+        let were_all = to - from == run.len();
         let (_, rest) = run.split_at_mut(from);
         let (alike, _) = rest.split_at_mut(to - from);
-        sort_level(names, alike, level + 1);
+        let next = next_offset(names, alike, offset + DIGITS, were_all);
+        sort_level(names, alike, next, levels - 1);
         from = to;
     }
 }
@@ -191,6 +243,6 @@ pub fn order(alloc: Global, names: Names<'_, '_>) -> Result<Vec<Keyed>, AllocErr
     ensures { IfOk result (λ v. IsOrderOf (held_names names.entry) v.items) }
 {
     let mut keys = all_positions(alloc, names)?;
-    sort_level(names, keys.as_mut_slice(), 0);
+    sort_level(names, keys.as_mut_slice(), 0, MOST_LEVELS);
     Ok(keys)
 }

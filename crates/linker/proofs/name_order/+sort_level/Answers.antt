@@ -1,6 +1,5 @@
-use Rattle.std.proofs.Common.{rules, ◌≡◌, ◌<◌, ◌≤◌, ◌*◌, ◌+◌, ◌-◌, ◌++◌, ℕ, List, arith, drop, length, subst, take}
+use Rattle.std.proofs.Common.{rules, arith}
 use Rattle.std.proofs.lemmas.List.Sorted.{IsNonDecreasingBy-from_sort_by_key}
-use Rattle.linker.specs.NameKeys.{AreAlike, positions}
 use Rattle.linker.specs.declared.name_order.Keyed.{Keyed}
 use Rattle.linker.proofs.LevelLaws.{Cut, all_done, all_left, end_within, next_alike, next_done}
 use Rattle.linker.proofs.name_order.+sort_level.Goals as goal
@@ -8,7 +7,7 @@ use Rattle.linker.proofs.name_order.+sort_level.Goals as goal
 pub loop-from-init : goal.loop-from-init
 loop-from-init t c = (
   omega arith,
-  all_left c.args.names (7 * c.args.level) c.args.run.now c.number.new.run c.sort_unstable_by_key.new.self c.number.ensures.positions c.number.ensures.keys
+  all_left c.args.names (c.args.offset) c.args.run.now c.number.new.run c.sort_unstable_by_key.new.self c.number.ensures.positions c.number.ensures.keys
       c.sort_unstable_by_key.ensures.permutation
       (IsNonDecreasingBy-from_sort_by_key (λ (k : Keyed). k.key) c.sort_unstable_by_key.new.self c.sort_unstable_by_key.ensures.sorted (λ a r q k. search rules)),
 )
@@ -22,14 +21,10 @@ sort_level-requires t c =
       long = c.split_at_mut-alike.ensures.front_len;
       some = c.run_end-to.ensures.behind;
     } in
-    let next : 7 * c.args.level + 7 ≡ 7 * (c.args.level + 1) = omega arith in (
-      omega (arith, c.decreases, c.if-level-ge-MOST_LEVELS.false),
-      (
-        omega (arith, c.if-level-ge-MOST_LEVELS.false),
-        subst (λ o. AreAlike c.args.names o (positions c.split_at_mut-alike.result.0.now)) next
-            (next_alike c.args.names (7 * c.args.level) c.args.run.now c.loop-from.run _ _ _ _ c.loop-from.from c.run_end-to.result cut c.requires.alike c.loop-from.invariant.1 c.run_end-to.ensures.same),
-      ),
-    )
+    let here =
+    next_alike c.args.names c.args.offset c.args.run.now c.loop-from.run _ _ _ _ c.loop-from.from c.run_end-to.result cut c.requires c.loop-from.invariant.1
+    c.run_end-to.ensures.same in
+    (omega (arith, c.decreases, c.if-levels-eq0.false), c.next_offset-next.ensures here)
 
 pub loop-from-preserved : goal.loop-from-preserved
 loop-from-preserved t c =
@@ -41,9 +36,9 @@ loop-from-preserved t c =
       some = c.run_end-to.ensures.behind;
     } in (
       end_within _ _ _ _ _ _ _ _ cut c.sort_level.auto.run,
-      next_done c.args.names (7 * c.args.level) c.args.run.now c.loop-from.run _ _ _ _ _ c.loop-from.from c.run_end-to.result cut c.sort_level.auto.run c.requires.alike
+      next_done c.args.names (c.args.offset) c.args.run.now c.loop-from.run _ _ _ _ _ c.loop-from.from c.run_end-to.result cut c.sort_level.auto.run c.requires
           c.loop-from.invariant.1 c.run_end-to.ensures.same c.run_end-to.ensures.last (record { moved = c.sort_level.ensures.moved; rising = c.sort_level.ensures.rising }),
     )
 
 pub returns : goal.returns
-returns t c = all_done c.args.names (7 * c.args.level) c.args.run.now c.loop-from.run c.loop-from.from c.loop-from-test.false c.loop-from.invariant.1
+returns t c = all_done c.args.names (c.args.offset) c.args.run.now c.loop-from.run c.loop-from.from c.loop-from-test.false c.loop-from.invariant.1

@@ -1,7 +1,7 @@
-use Rattle.std.proofs.Common.{◌≡◌, ◌∙◌, ℕ, ◌+◌, ◌<◌, ◌≤◌, List, ap, arith, drop, get_or, length, subst, sym, take}
+use Rattle.std.proofs.Common.{◌≡◌, ◌∙◌, ◌<◌, ◌≤◌, ap, drop, get_or, length, subst, sym}
 use Rattle.std.specs.Prelude.{All}
 use Rattle.std.proofs.lemmas.List.{take_all}
-use Rattle.linker.specs.NameKeys.{IsKeyed, behind_of, name_key, name_of, positions}
+use Rattle.linker.specs.NameKeys.{IsKeyed, behind_of, name_key}
 use Rattle.linker.specs.declared.name_order.Keyed.{Keyed}
 use Rattle.linker.proofs.LevelLaws.{numbered_more, same_places}
 use Rattle.linker.proofs.name_order.number.Goals as goal

@@ -4,8 +4,8 @@ use Rattle.linker.specs.declared.name_order.Keyed.{Keyed}
 use Rattle.linker.proofs.LevelLaws.{all_alike, order_of}
 use Rattle.linker.proofs.name_order.order.Goals as goal
 
-pub sort_level-requires-clause-alike : goal.sort_level-requires-clause-alike
-sort_level-requires-clause-alike c = all_alike c.args.names (positions c.as_mut_slice.result.now)
+pub sort_level-requires : goal.sort_level-requires
+sort_level-requires c = all_alike c.args.names (positions c.as_mut_slice.result.now)
 
 pub returns : goal.returns
 returns c =

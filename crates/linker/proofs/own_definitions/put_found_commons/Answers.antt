@@ -9,7 +9,7 @@ use Rattle.relocate.specs.Uses.{line_views}
 use Rattle.resolve.specs.Views.{meaning_views}
 use Rattle.resolve.specs.declared.definition.Definition as code
 use Rattle.resolve.specs.Chosen.{defined_in}
-use Rattle.linker.specs.InOrder.{meaning_at, meanings_in}
+use Rattle.linker.specs.InOrder.{meaning_at}
 use Rattle.linker.specs.declared.name_order.Keyed.{Keyed}
 use Rattle.linker.proofs.Behind.{nothing_put, part_put}
 use Rattle.linker.proofs.OwnTexts.{batch_is, commons_join}

@@ -1,4 +1,4 @@
-use Rattle.std.proofs.Common.{◌∙◌, List, ap, subst, sym}
+use Rattle.std.proofs.Common.{◌∙◌, ap, subst, sym}
 use Rattle.std.specs.Prelude.{All}
 use Rattle.elf_model.specs.Own.ImageFile.{IsOwnMap, own_end}
 use Rattle.elf_model.specs.Image.MapRecord.{map_of}

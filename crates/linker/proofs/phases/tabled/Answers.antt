@@ -1,20 +1,18 @@
-use Rattle.std.proofs.Common.{◌≡◌, ◌∙◌, ◌<◌, ◌≤◌, ◌^◌, Bool, ℕ, List, false, true, ap, subst, sym}
-use Rattle.std.specs.Prelude.{All, None, Some}
+use Rattle.std.proofs.Common.{◌≡◌, ◌∙◌, ◌<◌, ◌≤◌, ◌^◌, ℕ, List, ap, subst, sym}
+use Rattle.std.specs.Prelude.{All}
 use Rattle.elf_model.specs.Inputs.Command.{Plan}
 use Rattle.elf_model.specs.Own.ImageFile.{own_end}
-use Rattle.elf_model.specs.Link.Listing.{AreLinkerLines}
 use Rattle.elf_model.specs.Link.Loading.{LoadedObject}
 use Rattle.elf_model.specs.Image.MemoryImage.{file_end}
 use Rattle.elf_model.specs.Own.OwnLayout.{own_segments}
 use Rattle.elf_model.specs.Image.SymbolTable.{tables_end}
 use Rattle.layout.specs.Placements.{Basis}
 use Rattle.search.specs.Views.{loaded_views}
-use Rattle.relocate.specs.Uses.{line_views}
 use Rattle.resolve.specs.Views.{meaning_views}
 use Rattle.resolve.specs.declared.definition.Definition as code
 use Rattle.image_write.specs.Listings.{IsListing}
 use Rattle.image_write.specs.Parts.{EndsLow}
-use Rattle.image_write.specs.Tables.{IsTableOf, entered}
+use Rattle.image_write.specs.Tables.{entered}
 use Rattle.image_write.proofs.OwnBody.{ends_low}
 use Rattle.linker.proofs.OwnMaps.{symbols_rise}
 use Rattle.linker.proofs.Tabled.{large_table, small_table}

@@ -1,4 +1,4 @@
-use Rattle.std.proofs.Common.{◌∙◌, ◌<◌, ◌^◌, List, ap, length, map, subst, sym}
+use Rattle.std.proofs.Common.{◌∙◌, ◌<◌, ◌^◌, List, ap, length, map, subst}
 use Rattle.std.specs.Prelude.{All, option_to_list}
 use Rattle.elf_model.specs.Link.Commons.{Block, blocks}
 use Rattle.elf_model.specs.Link.Loading.{LoadedObject}
