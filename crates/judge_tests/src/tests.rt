@@ -6,5 +6,6 @@ mod foreign_words;
 mod gaps;
 mod images;
 mod links;
+mod objects;
 mod places;
 mod thread_blocks;

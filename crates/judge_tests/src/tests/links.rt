@@ -1,21 +1,18 @@
-//! A link of two objects, each with a function and a common symbol, and changes of it. The fields have the values of the AMD64 psABI
-//! (4.4, "Relocation Types").
+//! A link of two objects, each with a function and a common symbol, as GNU ld 2.40 and LLD 14 make it with --section-start for .text and
+//! .bss, and changes of it. The fields have the values of the AMD64 psABI (4.4, "Relocation Types").
 ghost use Rattle.std.specs.Prelude.{IfOk, IfSome};
 ghost use Rattle.check_load.specs.Numbered.{AreNumbered};
 
 use crate::tests::images::{BLOCK, CODE, HEADER, HEADERS, image_with};
+use crate::tests::objects::{files, words_of};
 use byteview::View;
 use check_link::{CommonLines, Names, Outputs, Piece, Placed, pieces_of, place_all, read_plan};
 use check_load::NamedObjects;
 use command::Plan;
-use elf_model::{InputFile, ObjectLine, SHN_COMMON};
+use elf_model::{InputFile, ObjectLine};
 use foreign_image::ForeignImage;
 use judge_load::open_rows;
 use link_fields::{Addresses, Drops, LinkParts, are_fields_right, are_rests_right};
-use link_samples::links::{File, files_of};
-use link_samples::objects::{NamedSymbol, Relocation, Section};
-use link_samples::one_object::words_of;
-use link_samples::parts::{F, NO_F, R_PLT32, START, TEXT, V};
 use linkmap::{BorrowedCommon, BorrowedPlace};
 use memory_judge::Taken;
 use place_judge::{are_commons_right, are_in_memory};
@@ -23,51 +20,8 @@ use std::alloc::{AllocError, Global};
 use std::borrow::CowSlice;
 use std::test::Fail;
 
-const R_32: u32 = 10;
-
-/// `call f`.
-const CALLER: Section<'static> = Section {
-    sh_addralign: 8,
-    bytes: &[0xe8, 0, 0, 0, 0, 0x90, 0x90, 0x90],
-    ..TEXT
-};
-
-/// `mov $v, %eax`.
-const LOADER: Section<'static> = Section {
-    bytes: &[0xb8, 0, 0, 0, 0, 0x90, 0x90, 0x90],
-    ..CALLER
-};
-
-/// Common symbols of eight bytes, aligned to eight.
-const COMMON_V: NamedSymbol<'static> = NamedSymbol {
-    st_shndx: SHN_COMMON,
-    st_value: 8,
-    ..V
-};
-
-const COMMON_W: NamedSymbol<'static> = NamedSymbol {
-    name: "w",
-    ..COMMON_V
-};
-
-static FILES: [File; 3] = [
-    File::Object(
-        "a.o",
-        &[CALLER],
-        &[START, NO_F, COMMON_W],
-        &[Relocation(1, 1, R_PLT32, 2, -4)],
-    ),
-    File::Object(
-        "b.o",
-        &[LOADER],
-        &[F, COMMON_V],
-        &[Relocation(1, 1, R_32, 2, 0)],
-    ),
-    File::Bytes("c.o", b"no object at all"),
-];
-
-/// Two functions at 0x2010e8, and two common blocks behind them: the bytes, where `f`, `v` and `w` are; whether the fields are right, and whether
-/// the bytes beside them are.
+/// Two functions at 0x2010e8, and two common blocks behind them: the bytes, where `f`, `v` and `w` are; whether the fields are
+/// right, and whether the bytes beside them are.
 #[derive(Clone, Copy)]
 struct Row {
     bytes: [u8; 16],
@@ -80,11 +34,11 @@ struct Row {
 
 const RIGHT: Row = Row {
     bytes: [
-        0xe8, 3, 0, 0, 0, 0x90, 0x90, 0x90, 0xb8, 0xf8, 0x10, 0x20, 0, 0x90, 0x90, 0x90,
+        0xe8, 3, 0, 0, 0, 0x90, 0x90, 0x90, 0xb8, 0, 0x11, 0x20, 0, 0x90, 0x90, 0x90,
     ],
     f: 0x20_10f0,
-    v: 0x20_10f8,
-    w: 0x20_1100,
+    v: 0x20_1100,
+    w: 0x20_10f8,
     right: true,
     rests: true,
 };
@@ -95,29 +49,29 @@ static ROWS: [Row; 8] = [
     RIGHT,
     Row {
         bytes: [
-            0xe8, 4, 0, 0, 0, 0x90, 0x90, 0x90, 0xb8, 0xf8, 0x10, 0x20, 0, 0x90, 0x90, 0x90,
+            0xe8, 4, 0, 0, 0, 0x90, 0x90, 0x90, 0xb8, 0, 0x11, 0x20, 0, 0x90, 0x90, 0x90,
         ],
         right: false,
         ..RIGHT
     },
     Row {
         bytes: [
-            0xe8, 3, 0, 0, 0, 0x90, 0x90, 0x90, 0xb8, 0xf8, 0x10, 0x20, 1, 0x90, 0x90, 0x90,
+            0xe8, 3, 0, 0, 0, 0x90, 0x90, 0x90, 0xb8, 0, 0x11, 0x20, 1, 0x90, 0x90, 0x90,
         ],
         right: false,
         ..RIGHT
     },
     Row {
         bytes: [
-            0xe8, 3, 0, 0, 0, 0x90, 0x90, 0x90, 0xb8, 0, 0x11, 0x20, 0, 0x90, 0x90, 0x90,
+            0xe8, 3, 0, 0, 0, 0x90, 0x90, 0x90, 0xb8, 0xf8, 0x10, 0x20, 0, 0x90, 0x90, 0x90,
         ],
-        v: 0x20_1100,
-        w: 0x20_10f8,
+        v: 0x20_10f8,
+        w: 0x20_1100,
         ..RIGHT
     },
     Row {
-        v: 0x20_1100,
-        w: 0x20_10f8,
+        v: 0x20_10f8,
+        w: 0x20_1100,
         right: false,
         ..RIGHT
     },
@@ -129,14 +83,14 @@ static ROWS: [Row; 8] = [
     },
     Row {
         bytes: [
-            0xe8, 3, 0, 0, 0, 0x91, 0x90, 0x90, 0xb8, 0xf8, 0x10, 0x20, 0, 0x90, 0x90, 0x90,
+            0xe8, 3, 0, 0, 0, 0x91, 0x90, 0x90, 0xb8, 0, 0x11, 0x20, 0, 0x90, 0x90, 0x90,
         ],
         rests: false,
         ..RIGHT
     },
     Row {
         bytes: [
-            0xe8, 3, 0, 0, 0, 0x90, 0x90, 0x90, 0xb8, 0xf8, 0x10, 0x20, 0, 0x90, 0x90, 0x91,
+            0xe8, 3, 0, 0, 0, 0x90, 0x90, 0x90, 0xb8, 0, 0x11, 0x20, 0, 0x90, 0x90, 0x91,
         ],
         rests: false,
         ..RIGHT
@@ -268,7 +222,7 @@ fn opened<'a>(
 
 #[test]
 fn fields_hold_the_values_of_the_standard(rt: HostRuntime) -> Result<(), Fail> {
-    let files = files_of(rt.alloc(), &FILES)?;
+    let files = files(rt.alloc())?;
     let words = words_of(rt.alloc(), "a.o b.o")?;
     let plan = read_plan(rt.alloc(), &words)?.ok_or("no plan")?;
     let told = match opened(rt.alloc(), &plan, &files, 0, 1)? {
@@ -299,7 +253,7 @@ fn items<'a>(
 /// The order is that of the lines; item 2 is no object, and of item 9 there is no file.
 #[test]
 fn objects_come_as_lines_do(rt: HostRuntime) -> Result<(), Fail> {
-    let files = files_of(rt.alloc(), &FILES)?;
+    let files = files(rt.alloc())?;
     let words = words_of(rt.alloc(), "a.o b.o c.o")?;
     let plan = read_plan(rt.alloc(), &words)?.ok_or("no plan")?;
     let told = (
@@ -354,7 +308,7 @@ fn commons_told(alloc: Global, named: NamedObjects<'_>) -> Result<[bool; 5], All
 
 #[test]
 fn common_lines_are_those_of_blocks(rt: HostRuntime) -> Result<(), Fail> {
-    let files = files_of(rt.alloc(), &FILES)?;
+    let files = files(rt.alloc())?;
     let words = words_of(rt.alloc(), "a.o b.o")?;
     let plan = read_plan(rt.alloc(), &words)?.ok_or("no plan")?;
     let told = match opened(rt.alloc(), &plan, &files, 0, 1)? {
