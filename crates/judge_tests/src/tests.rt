@@ -1,11 +1,16 @@
 //! The tests, and what they are made of.
 mod certificates;
+mod entries;
 mod fields;
 mod fillers;
 mod foreign_words;
 mod gaps;
+mod header_rights;
 mod images;
+mod linker_names;
 mod links;
 mod objects;
 mod places;
+mod sample_objects;
+mod section_headers;
 mod thread_blocks;

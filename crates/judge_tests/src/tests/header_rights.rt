@@ -1,0 +1,216 @@
+//! Headers that give a program no more than its link does, and such that do: physical addresses, PT_GNU_RELRO, PT_GNU_STACK.
+use crate::tests::images::{CODE, HEADER, HEADERS, image_of};
+use crate::tests::sample_objects::{Part, file, loaded, object, words};
+use byteview::View;
+use check_link::{Piece, Placed};
+use check_load::Loaded;
+use elf_model::{
+    PT_GNU_STACK, ProgramHeader, SHF_ALLOC, SHF_EXECINSTR, SHF_WRITE, SHT_PROGBITS, SectionHeader,
+};
+use foreign_image::ForeignImage;
+use header_judge::are_headers_right;
+use std::alloc::{AllocError, Global};
+use std::test::Fail;
+
+/// A header beside those of `HEADERS` and `CODE`, and eight bytes of a section: its name, its flags and its address; whether the
+/// script has AT, and whether the words ask for a stack that can be executed.
+struct Row {
+    header: ProgramHeader,
+    name: &'static [u8],
+    flags: u64,
+    at: u64,
+    physical: bool,
+    executes: bool,
+}
+
+/// From the code's beginning to the end of its page, which begins at 0x201000.
+const RELRO: ProgramHeader = ProgramHeader {
+    p_type: 0x6474_e552,
+    p_flags: 4,
+    p_memsz: 0xf18,
+    ..CODE
+};
+
+const STACK: ProgramHeader = ProgramHeader {
+    p_type: PT_GNU_STACK,
+    p_flags: 6,
+    p_offset: 0,
+    p_vaddr: 0,
+    p_paddr: 0,
+    p_filesz: 0,
+    p_memsz: 0,
+    p_align: 16,
+};
+
+const DATA: Row = Row {
+    header: RELRO,
+    name: b".data",
+    flags: SHF_WRITE + SHF_ALLOC,
+    at: 0x20_10f0,
+    physical: false,
+    executes: false,
+};
+
+/// Sections that are written early, one that isn't written, data before the page and behind it, data in a page that PT_GNU_RELRO
+/// doesn't reach the end of; a stack that isn't executed, one that the words ask for; a physical address that the script gives.
+static RIGHT: [Row; 9] = [
+    Row {
+        name: b".data.rel.ro.local",
+        ..DATA
+    },
+    Row {
+        name: b".init_array",
+        ..DATA
+    },
+    Row {
+        name: b".rodata",
+        flags: SHF_ALLOC,
+        ..DATA
+    },
+    Row {
+        at: 0x20_0ff8,
+        ..DATA
+    },
+    Row {
+        at: 0x20_2000,
+        ..DATA
+    },
+    Row {
+        header: ProgramHeader {
+            p_memsz: 0xf17,
+            ..RELRO
+        },
+        ..DATA
+    },
+    Row {
+        header: STACK,
+        ..DATA
+    },
+    Row {
+        header: ProgramHeader {
+            p_flags: 7,
+            ..STACK
+        },
+        executes: true,
+        ..DATA
+    },
+    Row {
+        header: ProgramHeader {
+            p_paddr: 4096,
+            ..STACK
+        },
+        physical: true,
+        ..DATA
+    },
+];
+
+/// Data in the page, of names that are like early ones, before PT_GNU_RELRO but in its page, and that reach into it; a stack that
+/// nothing asks for; a physical address that no script gives.
+static WRONG: [Row; 7] = [
+    DATA,
+    Row {
+        name: b".data.rel",
+        ..DATA
+    },
+    Row {
+        name: b".tdata2",
+        ..DATA
+    },
+    Row {
+        at: 0x20_1000,
+        ..DATA
+    },
+    Row {
+        at: 0x20_0ff9,
+        ..DATA
+    },
+    Row {
+        header: ProgramHeader {
+            p_flags: 7,
+            ..STACK
+        },
+        ..DATA
+    },
+    Row {
+        header: ProgramHeader {
+            p_paddr: 4096,
+            ..STACK
+        },
+        ..DATA
+    },
+];
+
+fn section(row: &Row) -> Placed<'static> {
+    let header = SectionHeader {
+        sh_type: SHT_PROGBITS,
+        sh_flags: row.flags,
+        sh_size: 8,
+        sh_addralign: 1,
+        ..SectionHeader::NULL
+    };
+    Placed {
+        at: row.at,
+        piece: Piece {
+            object: 0,
+            section: 1,
+            header,
+            name: row.name,
+            bytes: &[],
+        },
+    }
+}
+
+/// Whether the headers of a row are right, with some objects; None where the image isn't read.
+fn judged(alloc: Global, objects: &[Loaded<'_>], row: &Row) -> Result<Option<bool>, AllocError> {
+    let bytes = image_of(alloc, &HEADER, &[HEADERS, CODE, row.header])?;
+    let placed = [section(row)];
+    match ForeignImage::read(alloc, View::new(&bytes))? {
+        Some(image) => Ok(Some(are_headers_right(
+            &image,
+            objects,
+            &placed,
+            row.physical,
+            row.executes,
+        ))),
+        None => Ok(None),
+    }
+}
+
+#[test]
+fn headers_within_the_link_are_right(rt: HostRuntime) -> Result<(), Fail> {
+    let mut all = true;
+    for row in &RIGHT {
+        all = judged(rt.alloc(), &[], row)? == Some(true) && all;
+    }
+    assert!(rt; all);
+    Ok(())
+}
+
+#[test]
+fn headers_beyond_the_link_are_not(rt: HostRuntime) -> Result<(), Fail> {
+    let mut all = true;
+    for row in &WRONG {
+        all = judged(rt.alloc(), &[], row)? == Some(false) && all;
+    }
+    assert!(rt; all);
+    Ok(())
+}
+
+/// Whether a stack that can be executed is right where an object has a section of a name and of flags.
+fn executed_with(alloc: Global, name: &'static str, flags: u64) -> Result<Option<bool>, Fail> {
+    let bytes = object(alloc, &[Part(name, SHT_PROGBITS, flags, 1, 0)], &[])?;
+    let files = file(alloc, bytes)?;
+    let words = words(alloc)?;
+    let named = loaded(alloc, &words, &files)?;
+    Ok(judged(alloc, &named.objects, &WRONG[5])?)
+}
+
+/// A note asks for it by EXECINSTR; no other note and no other section does.
+#[test]
+fn an_object_asks_for_an_executed_stack(rt: HostRuntime) -> Result<(), Fail> {
+    let asked = executed_with(rt.alloc(), ".note.GNU-stack", SHF_EXECINSTR)?;
+    let not = executed_with(rt.alloc(), ".note.GNU-stack", 0)?;
+    let other = executed_with(rt.alloc(), ".text", SHF_EXECINSTR)?;
+    assert!(rt; (asked, not, other) == (Some(true), Some(false), Some(false)));
+    Ok(())
+}

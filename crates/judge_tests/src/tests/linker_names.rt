@@ -1,0 +1,240 @@
+//! Values of the names that a linker defines, and such as they can't have (ld(1), the default scripts of GNU ld).
+ghost use Rattle.check_load.specs.Numbered.{AreNumbered};
+ghost use Rattle.check_link.specs.PieceParts.{AreInLimit};
+ghost use Rattle.check_link.specs.Views.{placed_views};
+ghost use Rattle.std.specs.Prelude.{IfOk};
+
+use crate::tests::images::{BLOCK, CODE, HEADER, HEADERS, image_of};
+use crate::tests::sample_objects::{Named, Part, file, loaded, object, words};
+use byteview::View;
+use check_link::{Names, Outputs, Piece, Placed, pieces_of, thing_of_placed};
+use check_load::{Loaded, NameTable};
+use elf_model::{SHF_ALLOC, SHF_EXECINSTR, SHF_WRITE, SHT_NOBITS, SHT_PROGBITS, Thing};
+use foreign_image::ForeignImage;
+use judge_model::{NameLine, NoteLine};
+use link_fields::{Addresses, LinkParts};
+use name_judge::are_names_right;
+use std::alloc::{AllocError, Global};
+use std::test::Fail;
+use thread_judge::are_low;
+
+/// Code from 0x2010e8 on, data behind it, then the section `set` behind a gap of four bytes, zeros behind one of eight.
+const PARTS: [Part; 4] = [
+    Part(".text", SHT_PROGBITS, SHF_ALLOC + SHF_EXECINSTR, 1, 4),
+    Part(".data", SHT_PROGBITS, SHF_ALLOC + SHF_WRITE, 1, 4),
+    Part("set", SHT_PROGBITS, SHF_ALLOC, 1, 4),
+    Part(".bss", SHT_NOBITS, SHF_ALLOC + SHF_WRITE, 1, 4),
+];
+
+const PLACES: [u64; 4] = [0x20_10e8, 0x20_10ec, 0x20_10f4, 0x20_1100];
+
+const GOT: Option<u64> = Some(0x20_10f8);
+
+/// Ends are exact, or up to what comes next; a start is exact, or down to what comes before; `_end` is at most two pages of 2 MiB
+/// behind memory, which ends at 0x201108; arrays that are not there are at 0 or in memory; an object defines `edata`, and no linker
+/// defines `__start_none`.
+static RIGHT: [(&str, u64); 18] = [
+    ("__executable_start", 0x20_0000),
+    ("__ehdr_start", 0x20_0000),
+    ("_etext", 0x20_10ec),
+    ("_edata", 0x20_10f0),
+    ("_edata", 0x20_10f4),
+    ("__bss_start", 0x20_1100),
+    ("__bss_start", 0x20_10f8),
+    ("_end", 0x20_1104),
+    ("_end", 0x60_1108),
+    ("end", 0x20_1104),
+    ("_GLOBAL_OFFSET_TABLE_", 0x20_10f8),
+    ("__start_set", 0x20_10f4),
+    ("__stop_set", 0x20_10f8),
+    ("__init_array_start", 0),
+    ("__fini_array_end", 0x20_1108),
+    ("__preinit_array_end", 0x20_0000),
+    ("edata", 1),
+    ("__start_none", 1),
+];
+
+static WRONG: [(&str, u64); 17] = [
+    ("__executable_start", 0x20_10e8),
+    ("__ehdr_start", 0),
+    ("_etext", 0x20_10ed),
+    ("etext", 0x20_10eb),
+    ("_edata", 0x20_10ef),
+    ("_edata", 0x20_10f5),
+    ("__bss_start", 0x20_1101),
+    ("__bss_start", 0x20_10f7),
+    ("_end", 0x20_1103),
+    ("_end", 0x60_1109),
+    ("_GLOBAL_OFFSET_TABLE_", 0x20_10f0),
+    ("__start_set", 0x20_10f5),
+    ("__stop_set", 0x20_10f7),
+    ("__start_set", 0),
+    ("__init_array_start", 0x20_0fff),
+    ("__fini_array_end", 0x20_1109),
+    ("__preinit_array_end", 1),
+];
+
+fn places<'a>(alloc: Global, pieces: &[Piece<'a>]) -> Result<Vec<Placed<'a>>, AllocError> {
+    let mut placed = Vec::new(alloc);
+    for (at, piece) in PLACES.iter().zip(pieces) {
+        placed.push(Placed {
+            at: *at,
+            piece: *piece,
+        })?;
+    }
+    Ok(placed)
+}
+
+/// What takes up memory: the headers and the sections.
+fn things(alloc: Global, placed: &[Placed<'_>]) -> Result<Vec<Thing>, AllocError> {
+    let mut things = Vec::new(alloc);
+    things.push(Thing {
+        at: 0x20_0000,
+        size: 232,
+        align: 1,
+        rights: 4,
+        in_file: true,
+    })?;
+    for q in placed {
+        things.push(thing_of_placed(q))?;
+    }
+    Ok(things)
+}
+
+/// Whether lines of names are right, with a note of the linker's; None where the image isn't read.
+fn are_right<'a>(
+    alloc: Global,
+    names: &Names<'_, 'a>,
+    pieces: &[Piece<'a>],
+    placed: &[Placed<'a>],
+    image: &'a [u8],
+    rows: &[NameLine],
+    notes: &[NoteLine],
+) -> Result<Option<bool>, AllocError> {
+    if !are_low(placed) {
+        return Ok(None);
+    }
+    let things = things(alloc, placed)?;
+    let outputs = Outputs::new(alloc, pieces)?;
+    let addresses = Addresses::new(alloc, placed)?;
+    match ForeignImage::read(alloc, View::new(image))? {
+        Some(image) => {
+            let parts = LinkParts {
+                image: &image,
+                names,
+                outputs: &outputs,
+                addresses: &addresses,
+                rows,
+                got: GOT,
+            };
+            Ok(Some(are_names_right(alloc, &parts, &things, notes)?))
+        }
+        None => Ok(None),
+    }
+}
+
+fn told<'a>(
+    alloc: Global,
+    objects: &[Loaded<'a>],
+    table: NameTable<'a>,
+    image: &'a [u8],
+    rows: &[NameLine],
+    notes: &[NoteLine],
+) -> Result<Option<bool>, AllocError>
+    requires { AreNumbered table objects.now }
+{
+    let names = Names::new(alloc, objects, table)?;
+    let pieces = pieces_of(alloc, objects)?;
+    let placed = places(alloc, &pieces)?;
+    are_right(alloc, &names, &pieces, &placed, image, rows, notes)
+}
+
+fn judged(alloc: Global, rows: &[NameLine], notes: &[NoteLine]) -> Result<Option<bool>, Fail> {
+    let image = image_of(alloc, &HEADER, &[HEADERS, CODE, BLOCK])?;
+    let bytes = object(alloc, &PARTS, &[Named("edata", 0x10, 2, 0)])?;
+    let files = file(alloc, bytes)?;
+    let words = words(alloc)?;
+    let named = loaded(alloc, &words, &files)?;
+    Ok(told(alloc, &named.objects, named.names, &image, rows, notes)?)
+}
+
+/// Lines of names.
+fn lines(alloc: Global, rows: &[(&str, u64)]) -> Result<Vec<NameLine>, AllocError> {
+    let mut lines = Vec::new(alloc);
+    for (name, value) in rows {
+        lines.push(NameLine {
+            value: *value,
+            name: Vec::from_slice(alloc, name.as_bytes())?,
+        })?;
+    }
+    Ok(lines)
+}
+
+#[test]
+fn values_within_bounds_are_right(rt: HostRuntime) -> Result<(), Fail> {
+    let mut all = true;
+    for row in &RIGHT {
+        let rows = lines(rt.alloc(), &[*row])?;
+        all = judged(rt.alloc(), &rows, &[])? == Some(true) && all;
+    }
+    assert!(rt; all);
+    Ok(())
+}
+
+#[test]
+fn values_out_of_bounds_are_not(rt: HostRuntime) -> Result<(), Fail> {
+    let mut all = true;
+    for row in &WRONG {
+        let rows = lines(rt.alloc(), &[*row])?;
+        all = judged(rt.alloc(), &rows, &[])? == Some(false) && all;
+    }
+    assert!(rt; all);
+    Ok(())
+}
+
+/// An array that isn't there begins where it ends.
+#[test]
+fn arrays_that_are_not_there_are_empty(rt: HostRuntime) -> Result<(), Fail> {
+    let empty = lines(
+        rt.alloc(),
+        &[
+            ("__fini_array_end", 0x20_1100),
+            ("__fini_array_start", 0x20_1100),
+        ],
+    )?;
+    let filled = lines(
+        rt.alloc(),
+        &[
+            ("__fini_array_end", 0x20_1108),
+            ("__fini_array_start", 0x20_1100),
+        ],
+    )?;
+    let right = judged(rt.alloc(), &empty, &[])?;
+    let wrong = judged(rt.alloc(), &filled, &[])?;
+    assert!(rt; (right, wrong) == (Some(true), Some(false)));
+    Ok(())
+}
+
+/// The linker's notes come before `_end` too.
+#[test]
+fn the_end_is_behind_notes(rt: HostRuntime) -> Result<(), Fail> {
+    let rows = lines(rt.alloc(), &[("_end", 0x20_1107)])?;
+    let before = judged(
+        rt.alloc(),
+        &rows,
+        &[NoteLine {
+            address: 0x20_1104,
+            size: 3,
+        }],
+    )?;
+    let behind = judged(
+        rt.alloc(),
+        &rows,
+        &[NoteLine {
+            address: 0x20_1104,
+            size: 4,
+        }],
+    )?;
+    assert!(rt; (before, behind) == (Some(true), Some(false)));
+    Ok(())
+}
