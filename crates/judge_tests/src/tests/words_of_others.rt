@@ -1,7 +1,6 @@
 //! Words of other linkers' commands (ld(1)), as compilers hand them on, and what they ask for.
 use command::{Plan, Source};
 use foreign_words::{Spoken, Wider, read_foreign_words};
-use link_samples::one_object::words_of;
 use std::alloc::{AllocError, Global};
 use std::process::Abort;
 use std::test::Fail;
@@ -114,6 +113,15 @@ static ROWS: [(&str, Option<Asked>); 18] = [
     ("a.o --start-group x.a", None),
     ("-s -static", None),
 ];
+
+/// The words of a line.
+fn words_of(alloc: Global, line: &str) -> Result<Vec<String>, AllocError> {
+    let mut words = Vec::new(alloc);
+    for word in line.split_ascii_whitespace() {
+        words.push(String::from_str(alloc, word)?)?;
+    }
+    Ok(words)
+}
 
 /// The text of an item.
 fn text_of<'a>(source: Source<'a>) -> &'a str {
