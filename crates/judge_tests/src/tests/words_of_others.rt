@@ -1,4 +1,6 @@
 //! Words of other linkers' commands (ld(1)), as compilers hand them on, and what they ask for.
+ghost use Rattle.foreign_words.specs.Spoken.{IsWhole};
+
 use command::{Plan, Source};
 use foreign_words::{Spoken, Wider, read_foreign_words};
 use std::alloc::{AllocError, Global};
@@ -175,7 +177,9 @@ fn has_flags(wider: &Wider<'_>, asked: &Asked) -> bool {
 }
 
 /// Whether words ask for what a row says.
-fn asks(alloc: Global, spoken: &Spoken<'_>, asked: &Asked) -> Result<bool, AllocError> {
+fn asks(alloc: Global, spoken: &Spoken<'_>, asked: &Asked) -> Result<bool, AllocError>
+    requires { IsWhole spoken.now }
+{
     let plan = spoken.plan(alloc)?;
     let wider = spoken.wider();
     Ok(
