@@ -8,8 +8,6 @@ mod header_rights;
 mod images;
 mod kept_sections;
 mod linker_names;
-mod links;
-mod objects;
 mod places;
 mod sample_objects;
 mod section_headers;

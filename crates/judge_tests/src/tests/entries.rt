@@ -5,7 +5,7 @@ use crate::tests::images::{BLOCK, CODE, HEADER, HEADERS, image_of};
 use crate::tests::sample_objects::{Named, Part, file, loaded, object, words};
 use byteview::View;
 use check_link::{Names, Outputs, Piece, Placed, pieces_of};
-use check_load::{Loaded, NameTable};
+use check_load::{Loaded, NameTable, NamedObjects};
 use elf_model::{SHF_ALLOC, SHF_EXECINSTR, SHF_TLS, SHF_WRITE, SHT_PROGBITS};
 use entry_judge::is_entry_right;
 use foreign_image::ForeignImage;
@@ -103,8 +103,8 @@ fn judged(alloc: Global, symbol: Named) -> Result<Option<bool>, Fail> {
     let bytes = object(alloc, &PARTS, &[symbol])?;
     let files = file(alloc, bytes)?;
     let words = words(alloc)?;
-    let named = loaded(alloc, &words, &files)?;
-    Ok(told(alloc, &named.objects, named.names, &image)?)
+    let NamedObjects { objects, names } = loaded(alloc, &words, &files)?;
+    Ok(told(alloc, &objects, names, &image)?)
 }
 
 #[test]

@@ -8,7 +8,7 @@ use crate::tests::images::{BLOCK, CODE, HEADER, HEADERS, image_of};
 use crate::tests::sample_objects::{Named, Part, file, loaded, object, words};
 use byteview::View;
 use check_link::{Names, Outputs, Piece, Placed, pieces_of, thing_of_placed};
-use check_load::{Loaded, NameTable};
+use check_load::{Loaded, NameTable, NamedObjects};
 use elf_model::{SHF_ALLOC, SHF_EXECINSTR, SHF_WRITE, SHT_NOBITS, SHT_PROGBITS, Thing};
 use foreign_image::ForeignImage;
 use judge_model::{NameLine, NoteLine};
@@ -154,8 +154,8 @@ fn judged(alloc: Global, rows: &[NameLine], notes: &[NoteLine]) -> Result<Option
     let bytes = object(alloc, &PARTS, &[Named("edata", 0x10, 2, 0)])?;
     let files = file(alloc, bytes)?;
     let words = words(alloc)?;
-    let named = loaded(alloc, &words, &files)?;
-    Ok(told(alloc, &named.objects, named.names, &image, rows, notes)?)
+    let NamedObjects { objects, names } = loaded(alloc, &words, &files)?;
+    Ok(told(alloc, &objects, names, &image, rows, notes)?)
 }
 
 /// Lines of names.
