@@ -56,8 +56,7 @@ fn write_link<'a, 'b, R: Files + AllocGlobal + RandomSource, E: Write>(
     err: &mut E,
 ) -> Result<(), Failure<'a>>
     requires { linkage.now.plan.strip ≡ true }
-    ensures status { IfErr result (λ f. failure_status f ≢ 2) }
-    ensures quiet { IsErr result → err.new ≡ err.old }
+    ensures { IfErr result (λ f. failure_status f ≢ 2) }
 {
     let alloc = rt.alloc();
     let names = definitions(alloc, &*linkage)?;
@@ -89,7 +88,6 @@ pub fn link_files<'a, R: Files + AllocGlobal + RandomSource, E: Write>(
     ensures right { OnOk result (LinksRight (files_of files.now) (words_of words.now)) }
     ensures words_alone { IfErr result (λ f. failure_status f ≡ 2
         → IsErr (command_of (words_of words.now))) }
-    ensures quiet { IsErr result → err.new ≡ err.old }
 {
     let linkage = match prepare_seeded(rt.alloc(), files, words, seed) {
         Ok(linkage) => linkage,
