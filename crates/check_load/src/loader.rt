@@ -1,11 +1,12 @@
 //! The objects that are loaded so far, and what loading has to know of them.
-ghost use Rattle.std.specs.Prelude.{true, false, ◌≡◌, ◌≤◌, ◌<◌, [], ℕ, IfErr, IfNone, IfOk, IfSome, IsSomeAnd, OnOk, Some, length, option_map, slice_get};
+ghost use Rattle.std.specs.Prelude.{true, false, ◌≡◌, ◌≤◌, ◌<◌, List, [], ℕ, IfErr, IfNone, IfOk, IfSome, IsSomeAnd, OnOk, Some, length, option_map, slice_get};
 ghost use Rattle.std.specs.List.{find};
 ghost use Rattle.elf_model.specs.Inputs.ArchiveFile as archive;
-ghost use Rattle.elf_model.specs.Link.Loading.{is_begun, next, with_object};
+ghost use Rattle.elf_model.specs.Link.Loading.{is_begun, is_defined, is_requested, needed, next, with_object};
 ghost use Rattle.elf_model.specs.Inputs.ObjectFile.{IsObject};
 ghost use Rattle.check_load.specs.Loaders.{AreFreeAwake, IsLoadable, Knows, is_free, loaded};
 ghost use Rattle.check_load.specs.Awake.{is_awake};
+ghost use Rattle.check_load.specs.Names.{defines_name, requests_name};
 ghost use Rattle.opening.specs.Opened.{item_view};
 ghost use Rattle.check_load.specs.Places.{IsAt};
 ghost use Rattle.check_load.specs.Rounds.{AreAsleep, AreSideBySide};
@@ -226,6 +227,18 @@ impl<'p, 'a> Loader<'p, 'a> {
         ensures { result ≡ is_begun (loaded self.now) item }
     {
         self.taken.has_item(item)
+    }
+
+    /// Whether a name is asked for by the command or by what is loaded, and not defined by what is loaded.
+    pub fn needs(&self, name: &[u8]) -> bool
+        requires requested { (n : List ℕ) →
+            requests_name self.now.names n ≡ is_requested self.now.plan.now (loaded self.now) n }
+        requires defined { (n : List ℕ) →
+            defines_name self.now.names n ≡ is_defined (loaded self.now) n }
+        ensures { result ≡ needed self.now.plan.now (loaded self.now) name.now }
+    {
+        let state = self.names.state_of(name);
+        state.requested && !state.defined
     }
 
     /// How many objects are loaded.
