@@ -1,0 +1,6 @@
+pub mod Headers
+pub mod Members
+pub mod Archives
+pub mod Loading
+pub mod Files
+mod Examples
