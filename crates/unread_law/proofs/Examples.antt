@@ -1,6 +1,6 @@
 -- Two archives of one member of three bytes, whose data differ: they agree outside of these.
 use Rattle.std.proofs.Common.{◌≡◌, ℕ, List, [], ◌∷◌, ◌++◌, refl, sym, ◌∙◌, true}
-use Rattle.std.specs.Prelude.{All, codes}
+use Rattle.std.specs.Prelude.{codes}
 use Rattle.std.proofs.lemmas.Bool.{false≢true}
 use Rattle.std.proofs.lemmas.List.Elements.{All-cons, All-nil}
 use Rattle.elf_model.specs.Inputs.ArchiveFile.{header_offsets, is_ordinary, padded, stored_member}

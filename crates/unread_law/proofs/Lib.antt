@@ -3,4 +3,5 @@ pub mod Members
 pub mod Archives
 pub mod Loading
 pub mod Files
+pub mod RightLinks
 mod Examples

@@ -1,11 +1,12 @@
 -- Files that agree where loading looks. Of an archive that is searched, it looks at the headers, at the index and the long names,
 -- and at the data of the members that it takes; at the data of no other.
-use Rattle.std.specs.Prelude.{ℕ, ◌≡◌, ◌⊎◌, ◌+◌, ◌%◌, true, false, List, All, length, map, slice_index, take}
+use Rattle.std.specs.Prelude.{ℕ, ◌≡◌, ◌⊎◌, ◌+◌, ◌%◌, true, false, List, All, Ok, length, map, slice_index, take}
 use Rattle.std.specs.List.{AllZip}
 use Rattle.byteview.specs.Numbers.{part}
 use Rattle.elf_model.specs.Inputs.ArchiveFile.{end_at, header_offsets, is_ordinary, size_at, stored_member}
-use Rattle.elf_model.specs.Inputs.Command.{Plan}
+use Rattle.elf_model.specs.Inputs.Command.{Plan, command_of}
 use Rattle.elf_model.specs.Inputs.Files.{File}
+use Rattle.elf_model.specs.Image.RightLink.{IsRightLink}
 use Rattle.elf_model.specs.Inputs.Opening.{AreArchives, AreFilesThere, HaveIndexes, Opened, archive_data, opened}
 use Rattle.elf_model.specs.Link.Loading.{LoadedObject, loaded_objects}
 
@@ -58,3 +59,10 @@ pub record LoadsTheSame (files others : List File) (plan : Plan) : Type 0 where
 abbrev pub LoadingLooksOnlyWhereItMust : Type 0
 LoadingLooksOnlyWhereItMust =
     (files others : List File) (plan : Plan) → Agree files others plan → LoadsTheSame files others plan
+
+-- and a right link of the first is one of the others
+abbrev pub RightLinksLookOnlyThere : Type 0
+RightLinksLookOnlyThere =
+    (files others : List File) (words : List (List ℕ)) (image map_text : List ℕ) (plan : Plan)
+    → command_of words ≡ Ok plan → Agree files others plan
+    → IsRightLink files words image map_text → IsRightLink others words image map_text

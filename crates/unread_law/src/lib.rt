@@ -2,9 +2,10 @@
 //! headers, at the index and the long names, and at the data of the members that it takes. It has no code.
 #![tactic(auto)]
 
-ghost use Rattle.unread_law.specs.Unread.{LoadingLooksOnlyWhereItMust};
+ghost use Rattle.unread_law.specs.Unread.{LoadingLooksOnlyWhereItMust, RightLinksLookOnlyThere};
 
-/// Files that agree where loading looks give the same objects (ar(5); ld(1)).
+/// Files that agree where loading looks give the same objects (ar(5); ld(1)), and a right link of them is one of the others.
 pub fn loading_looks_only_where_it_must()
-    ensures { LoadingLooksOnlyWhereItMust }
+    ensures loading { LoadingLooksOnlyWhereItMust }
+    ensures links { RightLinksLookOnlyThere }
 {}
