@@ -8,6 +8,7 @@ mod header_rights;
 mod images;
 mod kept_sections;
 mod linker_names;
+mod made_notes;
 mod places;
 mod sample_objects;
 mod section_headers;
