@@ -9,14 +9,14 @@ use crate::says::{Says, Start, Switch};
 use std::alloc::{AllocError, Global};
 
 /// What words say that the profile's don't: whether sections are collected (`--gc-sections`), the first of two definitions counts
-/// (`-z muldefs`), code may be written (`-N`) and the stack executed (`-z execstack`), the bits of the property note that they ask
+/// (`-z muldefs`), code may be written (`-N`), the stack executed or not (`-z execstack`, `-z noexecstack`), the bits of the property note that they ask
 /// for, where the first segment begins, where output sections do, and whether LOCAL names may be missing (`-x`).
 #[derive(Debug, Drop)]
 pub struct Wider<'w> {
     pub collects: bool,
     pub takes_first: bool,
     pub writes_code: bool,
-    pub executes_stack: bool,
+    pub executes_stack: Option<bool>,
     pub features: u64,
     pub segment: Option<u64>,
     pub starts: Vec<Start<'w>>,
@@ -193,7 +193,7 @@ pub fn wider_of<'w>(alloc: Global, all: &[Says<'w>]) -> Result<Wider<'w>, AllocE
         collects: last_collects(all).unwrap_or(false),
         takes_first: some_takes_first(all),
         writes_code: some_writes_code(all),
-        executes_stack: last_stack(all).unwrap_or(false),
+        executes_stack: last_stack(all),
         features: all_features(all),
         segment: last_segment(all),
         starts: all_starts(alloc, all)?,

@@ -1,5 +1,5 @@
 -- The headers of a link are right exactly where they are by what decides it.
-use Rattle.std.proofs.Common.{◌≡◌, Bool, List, ℕ, subst}
+use Rattle.std.proofs.Common.{◌≡◌, Bool, List, Option, ℕ, subst}
 use Rattle.std.specs.Prelude.{◌↔◌, true}
 use Rattle.std.proofs.lemmas.List.Elements.{All-weaker}
 use Rattle.elf_model.specs.Image.MemoryImage.{program_headers}
@@ -47,12 +47,12 @@ module _ (l : ForeignLink) where
 
   -- by what the code has of a link
   pub right_by :
-      (image : List ℕ) (os : List LoadedObject) (qs : List Placed) (physical executes : Bool) → IsOfLink l image os qs physical executes →
+      (image : List ℕ) (os : List LoadedObject) (qs : List Placed) (physical : Bool) (executes : Option Bool) → IsOfLink l image os qs physical executes →
       AreRightBy image physical (may_execute executes os) qs ↔ AreHeadersRight l
   right_by image os qs physical executes of =
       subst (λ (i : List ℕ). AreRightBy i physical (may_execute executes os) qs ↔ AreHeadersRight l) of.image_is
       (subst (λ (o : List LoadedObject). AreRightBy l.image physical (may_execute executes o) qs ↔ AreHeadersRight l) of.objects_are
       (subst (λ (q : List Placed). AreRightBy l.image physical (may_execute executes (objects_of l)) q ↔ AreHeadersRight l) of.placed_are
       (subst (λ (b : Bool). AreRightBy l.image b (may_execute executes (objects_of l)) (placed_of l) ↔ AreHeadersRight l) of.physical_is
-      (subst (λ (b : Bool). AreRightBy l.image (in_script (λ t. t.physical) l.plan) (may_execute b (objects_of l)) (placed_of l) ↔ AreHeadersRight l) of.executes_is
+      (subst (λ (b : Option Bool). AreRightBy l.image (in_script (λ t. t.physical) l.plan) (may_execute b (objects_of l)) (placed_of l) ↔ AreHeadersRight l) of.executes_is
       own_right))))

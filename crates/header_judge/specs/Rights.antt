@@ -1,16 +1,14 @@
 -- The requirements on a program header that a link's words, objects and pieces decide, each as a word of its own.
-use Rattle.std.specs.Prelude.{◌≡◌, ◌⊎◌, ◌&&◌, ◌||◌, ℕ, Bool, true, List, All, bit_and, codes}
+use Rattle.std.specs.Prelude.{◌≡◌, ◌⊎◌, ◌&&◌, ℕ, Bool, true, List, Option, All, bit_and, unwrap_or}
 use Rattle.std.specs.List.{list_any}
-use Rattle.std.specs.Str.{bytes_eq}
 use Rattle.elf_model.specs.Image.MemoryImage.{program_headers}
-use Rattle.elf_model.specs.Inputs.ObjectFile.{name_of_section}
 use Rattle.elf_model.specs.Link.Loading.{LoadedObject}
 use Rattle.elf_model.specs.Link.Pieces.{is_executable, is_gathered_by}
 use Rattle.elf_model.specs.Link.Placement.{Covers, Placed, thing_of}
 use Rattle.elf_model.specs.declared.constants.TheConstants.{PF_X}
 use Rattle.elf_model.specs.declared.records.ProgramHeader.{ProgramHeader}
 use Rattle.elf_model.specs.declared.records.SectionHeader.{SectionHeader}
-use Rattle.judge_model.specs.Headers.{IsProgram, IsProtected, is_executing_note, is_written_late, pt_gnu_relro, pt_gnu_stack, relro_names}
+use Rattle.judge_model.specs.Headers.{IsProgram, IsProtected, asks_for_stack, is_stack_note, is_written_late, pt_gnu_relro, pt_gnu_stack, relro_names}
 use Rattle.judge_model.specs.Links.{ForeignLink, objects_of, placed_of}
 use Rattle.judge_model.specs.Plans.{in_script}
 
@@ -37,16 +35,13 @@ pub record SparesAll (qs : List Placed) (h : ProgramHeader) : Type 0 where
 pub record HasStack (may : Bool) (h : ProgramHeader) : Type 0 where
   pub stack : h.p_type ≡ pt_gnu_stack → bit_and h.p_flags PF_X ≡ PF_X → may ≡ true
 
--- a section is the note on the stack; it is, and says that the stack is executed
-abbrev pub is_note : List ℕ → SectionHeader → Bool
-is_note bytes h = bytes_eq (name_of_section bytes h) (codes ".note.GNU-stack")
-
+-- a section is the note on the stack, and says that the stack is executed
 abbrev pub asks : List ℕ → SectionHeader → Bool
-asks bytes h = is_executable h && is_note bytes h
+asks bytes h = is_executable h && is_stack_note bytes h
 
--- the words or an object ask for a stack that can be executed
-abbrev pub may_execute : Bool → List LoadedObject → Bool
-may_execute executes os = executes || list_any (λ o. is_executing_note o.bytes) os
+-- the words ask for a stack that can be executed, or say nothing of it and an object does
+abbrev pub may_execute : Option Bool → List LoadedObject → Bool
+may_execute executes os = unwrap_or executes (list_any (λ o. asks_for_stack o.bytes) os)
 
 -- the headers are right by these
 pub record AreRightBy (image : List ℕ) (physical may : Bool) (qs : List Placed) : Type 0 where
@@ -56,7 +51,7 @@ pub record AreRightBy (image : List ℕ) (physical may : Bool) (qs : List Placed
   pub stacks : All (HasStack may) (program_headers image)
 
 -- these are a link's image, objects, pieces and words
-pub record IsOfLink (l : ForeignLink) (image : List ℕ) (os : List LoadedObject) (qs : List Placed) (physical executes : Bool) : Type 0 where
+pub record IsOfLink (l : ForeignLink) (image : List ℕ) (os : List LoadedObject) (qs : List Placed) (physical : Bool) (executes : Option Bool) : Type 0 where
   pub image_is : l.image ≡ image
   pub objects_are : objects_of l ≡ os
   pub placed_are : placed_of l ≡ qs

@@ -44,13 +44,14 @@ fn are_right_by(image: &ForeignImage<'_>, physical: bool, may: bool, placed: &[P
 
 /// Whether the headers of a link's image, which is a program, give it no more than the link does: physical addresses are
 /// the virtual ones, unless the script has AT (`physical`); PT_GNU_RELRO makes nothing read-only that the program may
-/// write; and the stack may be executed only where the words (`executes`) or an object ask for it.
+/// write; and the stack may be executed only where the words ask for it (`executes`), or they say nothing of it and an object
+/// asks: by the flags of its `.note.GNU-stack`, or by having none.
 pub fn are_headers_right(
     image: &ForeignImage<'_>,
     objects: &[Loaded<'_>],
     placed: &[Placed<'_>],
     physical: bool,
-    executes: bool,
+    executes: Option<bool>,
 ) -> bool
     ensures { (l : ForeignLink)
         → IsOfLink l image.now (loaded_views objects.now) (placed_views placed.now) physical executes

@@ -1,10 +1,11 @@
-//! Whether the stack may be executed: where the words ask for it, or an object does by the flags of its `.note.GNU-stack`.
+//! Whether the stack may be executed: where the words ask for it; or where they don't forbid it and an object asks, by the flags
+//! of its `.note.GNU-stack` or by having none.
 ghost use Rattle.std.specs.Prelude.{◌≡◌, ◌↔◌, ◌<◌, All, IsTrue, length};
 ghost use Rattle.std.specs.List.{list_any};
 ghost use Rattle.check_load.specs.Views.{loaded_views};
 ghost use Rattle.elf_model.specs.Inputs.ObjectFile as object_file;
-ghost use Rattle.judge_model.specs.Headers.{is_executing_note};
-ghost use Rattle.header_judge.specs.Rights.{HasStack, asks, is_note, may_execute};
+ghost use Rattle.judge_model.specs.Headers.{asks_for_stack, has_stack_note, is_executing_note, is_stack_note};
+ghost use Rattle.header_judge.specs.Rights.{HasStack, asks, may_execute};
 
 use check_load::Loaded;
 use elf_model::{PF_X, PT_GNU_STACK, ProgramHeader};
@@ -15,13 +16,14 @@ fn asks(object: &ObjectFile<'_>, i: usize) -> bool
     requires { i < length (object_file.sections object.now) }
     ensures { result ≡ asks object.now (object_file.section (object_file.sections object.now) i) }
 {
-    object.section(i).is_executable() && is_note(object, i)
+    object.section(i).is_executable() && is_stack_note(object, i)
 }
 
 /// Whether a section is the note on the stack.
-fn is_note(object: &ObjectFile<'_>, i: usize) -> bool
+fn is_stack_note(object: &ObjectFile<'_>, i: usize) -> bool
     requires { i < length (object_file.sections object.now) }
-    ensures { result ≡ is_note object.now (object_file.section (object_file.sections object.now) i) }
+    ensures { result
+        ≡ is_stack_note object.now (object_file.section (object_file.sections object.now) i) }
 {
     match object.section_name(i) {
         Some(name) => name == b".note.GNU-stack".as_slice(),
@@ -29,7 +31,7 @@ fn is_note(object: &ObjectFile<'_>, i: usize) -> bool
     }
 }
 
-/// Whether an object asks for a stack that can be executed.
+/// Whether an object's note on the stack asks for one that can be executed.
 fn is_executing_note(object: &ObjectFile<'_>) -> bool
     ensures { result ≡ is_executing_note object.now }
 {
@@ -41,18 +43,40 @@ fn is_executing_note(object: &ObjectFile<'_>) -> bool
     false
 }
 
-/// Whether one of some objects does.
-fn do_some_ask(objects: &[Loaded<'_>]) -> bool
-    ensures { result ≡ list_any (λ o. is_executing_note o.object) objects.now }
+/// Whether an object has a note on the stack.
+fn has_stack_note(object: &ObjectFile<'_>) -> bool
+    ensures { result ≡ has_stack_note object.now }
 {
-    objects.iter().any(|o| is_executing_note(&o.object))
+    for i in 0..object.sections().len() {
+        if is_stack_note(object, i) {
+            return true;
+        }
+    }
+    false
 }
 
-/// Whether the words ask for a stack that can be executed, or an object does.
-pub fn may_execute(executes: bool, objects: &[Loaded<'_>]) -> bool
+/// Whether an object asks for a stack that can be executed: its note does, or it has none.
+fn asks_for_stack(object: &ObjectFile<'_>) -> bool
+    ensures { result ≡ asks_for_stack object.now }
+{
+    !has_stack_note(object) || is_executing_note(object)
+}
+
+/// Whether one of some objects does.
+fn do_some_ask(objects: &[Loaded<'_>]) -> bool
+    ensures { result ≡ list_any (λ o. asks_for_stack o.object) objects.now }
+{
+    objects.iter().any(|o| asks_for_stack(&o.object))
+}
+
+/// Whether the words ask for a stack that can be executed, or say nothing of it and an object does.
+pub fn may_execute(executes: Option<bool>, objects: &[Loaded<'_>]) -> bool
     ensures { result ≡ may_execute executes (loaded_views objects.now) }
 {
-    executes || do_some_ask(objects)
+    match executes {
+        Some(says) => says,
+        None => do_some_ask(objects),
+    }
 }
 
 fn has_stack(may: bool, h: &ProgramHeader) -> bool

@@ -1,7 +1,7 @@
 -- F11 and F12. The headers of an image: what the system asks of them to map it, and that they are true (System V gABI 4, "ELF
 -- Header", 5, "Program Header"; PT_GNU_STACK, PT_GNU_RELRO and PT_GNU_PROPERTY are those of GNU; pages and tails are those
 -- of Linux on x86-64).
-use Rattle.std.specs.Prelude.{◌≡◌, ◌⊎◌, ℕ, ◌+◌, ◌-◌, ◌*◌, ◌/◌, ◌%◌, ◌^◌, ◌<◌, ◌≤◌, ◌==◌, ◌&&◌, ◌||◌, Bool, true, not, List, [], ◌∷◌, All, AllPairs, Any, bit_and, codes, count_by, length, slice_index, take}
+use Rattle.std.specs.Prelude.{◌≡◌, ◌⊎◌, ℕ, ◌+◌, ◌-◌, ◌*◌, ◌/◌, ◌%◌, ◌^◌, ◌<◌, ◌≤◌, ◌==◌, ◌&&◌, ◌||◌, Bool, true, not, List, [], ◌∷◌, All, AllPairs, Any, bit_and, codes, count_by, length, slice_index, take, unwrap_or}
 use Rattle.std.specs.List.{list_any}
 use Rattle.std.specs.Str.{bytes_eq}
 use Rattle.elf_model.specs.Image.MemoryImage.{ShareNoPage, loads, program_headers}
@@ -12,6 +12,7 @@ use Rattle.elf_model.specs.Link.Placement.{Covers, Placed, thing_of}
 use Rattle.elf_model.specs.declared.constants.TheConstants.{PF_R, PF_W, PF_X}
 use Rattle.elf_model.specs.declared.records.FileHeader.{FileHeader}
 use Rattle.elf_model.specs.declared.records.ProgramHeader.{ProgramHeader}
+use Rattle.elf_model.specs.declared.records.SectionHeader.{SectionHeader}
 use Rattle.judge_model.specs.Links.{ForeignLink, objects_of, placed_of}
 use Rattle.judge_model.specs.Plans.{in_script}
 
@@ -152,13 +153,22 @@ ProtectsNone l h =
     h.p_type ≡ pt_gnu_relro
     → All (λ q. is_written_late q ≡ true → (a : ℕ) → Covers (thing_of q) a → ¬ IsProtected h a) (placed_of l)
 
--- The stack is executable where the words or an object ask for it alone: an object asks by the flags of .note.GNU-stack
+-- The stack is executable only where the words ask for it, or they don't forbid it and an object asks: by the flags of its
+-- .note.GNU-stack; or by having none, since a compiler that says nothing of the stack may execute it (GNU ld, gold).
+abbrev pub is_stack_note : List ℕ → SectionHeader → Bool
+is_stack_note bytes h = bytes_eq (name_of_section bytes h) (codes ".note.GNU-stack")
+
 abbrev pub is_executing_note : List ℕ → Bool
-is_executing_note bytes =
-    list_any (λ h. is_executable h && bytes_eq (name_of_section bytes h) (codes ".note.GNU-stack")) (sections bytes)
+is_executing_note bytes = list_any (λ h. is_executable h && is_stack_note bytes h) (sections bytes)
+
+abbrev pub has_stack_note : List ℕ → Bool
+has_stack_note bytes = list_any (is_stack_note bytes) (sections bytes)
+
+abbrev pub asks_for_stack : List ℕ → Bool
+asks_for_stack bytes = not (has_stack_note bytes) || is_executing_note bytes
 
 abbrev pub may_execute_stack : ForeignLink → Bool
-may_execute_stack l = l.plan.executes_stack || list_any (λ o. is_executing_note o.bytes) (objects_of l)
+may_execute_stack l = unwrap_or l.plan.executes_stack (list_any (λ o. asks_for_stack o.bytes) (objects_of l))
 
 abbrev pub IsStackRight : ForeignLink → ProgramHeader → Type 0
 IsStackRight l h = h.p_type ≡ pt_gnu_stack → bit_and h.p_flags PF_X ≡ PF_X → may_execute_stack l ≡ true

@@ -1,6 +1,6 @@
 -- The names that a linker or its script defines where no object does, and which values they may have (ld(1) and the default
 -- scripts of GNU ld). A certificate gives each its one value; here is what a value has to be.
-use Rattle.std.specs.Prelude.{◌≡◌, ◌⊎◌, ℕ, ◌+◌, ◌-◌, ◌*◌, ◌^◌, ◌<◌, ◌≤◌, cond, List, [], ◌∷◌, Option, None, Some, All, Any, IfSome, codes, is_some, max, unwrap_or}
+use Rattle.std.specs.Prelude.{◌≡◌, ◌⊎◌, ℕ, ◌+◌, ◌-◌, ◌*◌, ◌/◌, ◌<◌, ◌≤◌, cond, List, [], ◌∷◌, Option, None, Some, All, Any, IfSome, bit_and, codes, unwrap_or}
 use Rattle.std.specs.Option.{option_or}
 use Rattle.std.specs.Str.{bytes_eq}
 use Rattle.elf_model.specs.Image.MemoryImage.{Encloses, first_address, loads}
@@ -9,11 +9,13 @@ use Rattle.elf_model.specs.Link.LinkerValues.{end_of_pieces, is_code_piece, is_f
 use Rattle.elf_model.specs.Link.Pieces.{is_of_output}
 use Rattle.elf_model.specs.Link.Placement.{Covers}
 use Rattle.elf_model.specs.declared.bound.Bound.{Bound}
+use Rattle.elf_model.specs.declared.constants.TheConstants.{PF_W}
 use Rattle.elf_model.specs.declared.bound.Bound.TheVariants.{CodeEnd, DataEnd, GotStart, ImageEnd, ImageStart, OutputEnd, OutputStart, ZeroStart}
 use Rattle.elf_model.specs.declared.records.ProgramHeader.{ProgramHeader}
 use Rattle.judge_model.specs.Certificates.{NameRow, value_of_name}
 use Rattle.elf_model.specs.Link.Meaning.{object_meaning}
 use Rattle.judge_model.specs.Links.{ForeignLink, has_output, objects_of, placed_of}
+use Rattle.judge_model.specs.Memory.{IsInReach, address_limit}
 use Rattle.judge_model.specs.Placed.{things_of}
 
 -- what a name stands for: one that is always defined; __start_N and __stop_N where the image has sections of output name N
@@ -30,35 +32,44 @@ pub record IsBehind (l : ForeignLink) (end v : ℕ) : Type 0 where
   pub inside : Any (λ h. Encloses h end (v - end)) (loads l.image)
   pub clear : IsClear l end v
 
+-- the end of no pieces is 0: there linkers have 0, or the address at which they are, which may be beside all segments
+abbrev pub IsEndOfNone : ForeignLink → ℕ → ℕ → Type 0
+IsEndOfNone l end v = (end ≡ 0) × IsInReach (loads l.image) v
+
 abbrev pub IsEnd : ForeignLink → ℕ → ℕ → Type 0
-IsEnd l end v = (v ≡ end) ⊎ IsBehind l end v
+IsEnd l end v = (v ≡ end) ⊎ IsBehind l end v ⊎ IsEndOfNone l end v
 
--- where a part of an image is that has nothing
+-- where an output section is that has nothing
 abbrev pub IsNowhere : ForeignLink → ℕ → Type 0
-IsNowhere l v = (v ≡ 0) ⊎ Any (λ h. Encloses h v 0) (loads l.image)
+IsNowhere l v = (v ≡ 0) ⊎ IsInReach (loads l.image) v
 
--- at the least address of some pieces, or before it in their segment and behind whatever comes before; anywhere where there
--- are none
+-- the end of code: gold has that of the segment of code, where read-only data may come behind it
+abbrev pub EndsSegment : ℕ → ℕ → ProgramHeader → Type 0
+EndsSegment end v h =
+    (h.p_vaddr < end) × (end ≤ h.p_vaddr + h.p_memsz) × (bit_and h.p_flags PF_W ≡ 0) × (v ≡ h.p_vaddr + h.p_memsz)
+
+abbrev pub IsCodeEnd : ForeignLink → ℕ → ℕ → Type 0
+IsCodeEnd l end v = IsEnd l end v ⊎ Any (EndsSegment end v) (loads l.image)
+
+-- at the least address of some pieces, or before it on the pages of their segment and behind whatever comes before; where
+-- there are none at the end of what comes before them
+abbrev pub HasPages : ℕ → ℕ → ProgramHeader → Type 0
+HasPages start v h = (h.p_vaddr / 4096 * 4096 ≤ v) × (start ≤ h.p_vaddr + h.p_memsz)
+
 pub record IsAhead (l : ForeignLink) (start v : ℕ) : Type 0 where
   pub ahead : v ≤ start
-  pub inside : Any (λ h. Encloses h v (start - v)) (loads l.image)
+  pub inside : Any (HasPages start v) (loads l.image)
   pub clear : IsClear l v start
 
-abbrev pub IsStart : ForeignLink → ℕ → Option ℕ → Type 0
-IsStart l v None = IsNowhere l v
-IsStart l v (Some start) = (v ≡ start) ⊎ IsAhead l start v
+abbrev pub IsStart : ForeignLink → ℕ → ℕ → Option ℕ → Type 0
+IsStart l before v None = IsEnd l before v
+IsStart l before v (Some start) = (v ≡ start) ⊎ IsAhead l start v
 
--- the greatest end of the segments
-abbrev pub memory_end : List ProgramHeader → ℕ
-memory_end [] = 0
-memory_end (h ∷ hs) = max (h.p_vaddr + h.p_memsz) (memory_end hs)
-
--- the end of all: of every section, block and note (slots are judged with the fill), and at most two of the largest pages
--- behind the last segment
+-- the end of all: of every section, block and note (slots are judged with the fill), and not far behind the last segment
 pub record IsImageEnd (l : ForeignLink) (v : ℕ) : Type 0 where
   pub behind : end_of_pieces is_loaded_piece (placed_of l) ≤ v
   pub notes : All (λ n. n.address + n.size ≤ v) l.certificate.notes
-  pub near : v ≤ memory_end (loads l.image) + 2 * 2 ^ 21
+  pub near : v ≤ address_limit (loads l.image)
 
 abbrev pub start_of_output : ForeignLink → List ℕ → Option ℕ
 start_of_output l output = start_of_pieces (is_of_output output) (placed_of l)
@@ -77,9 +88,9 @@ IsEndOf l output v = IsAt l v (end_of_pieces (is_of_output output) (placed_of l)
 -- the value that a name's bound may have
 abbrev pub IsBoundAt : ForeignLink → List ℕ → ℕ → Bound → Type 0
 IsBoundAt l name v ImageStart = v ≡ first_address (loads l.image)
-IsBoundAt l name v CodeEnd = IsEnd l (end_of_pieces is_code_piece (placed_of l)) v
+IsBoundAt l name v CodeEnd = IsCodeEnd l (end_of_pieces is_code_piece (placed_of l)) v
 IsBoundAt l name v DataEnd = IsEnd l (end_of_pieces is_file_data (placed_of l)) v
-IsBoundAt l name v ZeroStart = IsStart l v (start_of_pieces is_zero_data (placed_of l))
+IsBoundAt l name v ZeroStart = IsStart l (end_of_pieces is_file_data (placed_of l)) v (start_of_pieces is_zero_data (placed_of l))
 IsBoundAt l name v ImageEnd = IsImageEnd l v
 IsBoundAt l name v GotStart = l.certificate.got ≡ Some v
 IsBoundAt l name v OutputStart = IsStartOf l (named_output name) v

@@ -13,6 +13,7 @@ use Rattle.elf_model.specs.declared.records.SectionHeader.{SectionHeader}
 use Rattle.elf_model.specs.declared.thing.Thing.{Thing}
 use Rattle.judge_model.specs.Certificates.{IsInOrder}
 use Rattle.judge_model.specs.Links.{ForeignLink, objects_of, pieces_of, placed_of, plain_pieces, sections_of}
+use Rattle.judge_model.specs.Memory.{IsInReach}
 use Rattle.judge_model.specs.Plans.{Start}
 use Rattle.judge_model.specs.Runs.{AreNeighbours, IsBetween, same_name}
 use Rattle.judge_model.specs.declared.certificate.NoteLine.{NoteLine}
@@ -61,6 +62,14 @@ abbrev pub LiesIn : List ProgramHeader → Placed → Type 0
 LiesIn hs q =
     Any (λ h. Encloses h q.at (thing_of q).size × (bit_and h.p_flags (needed_rights q.piece.header) ≡ needed_rights q.piece.header)) hs
 
+-- A section that takes up no memory may be beside all segments: where an output section is empty GNU ld and LLD make no
+-- segment for it, and give it the address at which they are.
+abbrev pub IsEmptyInReach : List ProgramHeader → Placed → Type 0
+IsEmptyInReach hs q = ((thing_of q).size ≡ 0) × IsInReach hs q.at
+
+abbrev pub HasPlace : List ProgramHeader → Placed → Type 0
+HasPlace hs q = LiesIn hs q ⊎ IsEmptyInReach hs q
+
 abbrev pub writes_code : SectionHeader → Bool
 writes_code h = is_writable h && is_executable h
 
@@ -98,7 +107,7 @@ pub record IsPlaced (l : ForeignLink) : Type 0 where
   pub aligned : All (λ q. q.at % q.piece.align ≡ 0) (placed_of l)
   pub apart : AllPairs AreApart (things_of l)
   pub threads_apart : AllPairs AreApart (thread_ranges (placed_of l))
-  pub in_memory : All (λ q. is_thread_zero q.piece ≡ false → LiesIn (loads l.image) q) (placed_of l)
+  pub in_memory : All (λ q. is_thread_zero q.piece ≡ false → HasPlace (loads l.image) q) (placed_of l)
   pub not_both : Any (λ h. is_both h ≡ true) (loads l.image) → MayBeBoth l
   pub runs : AreRuns l
   pub segment : IfSome l.plan.segment (λ a. first_address (loads l.image) ≡ a)

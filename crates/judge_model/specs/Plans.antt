@@ -19,15 +19,16 @@ pub record Start : Type 0 where
   pub name : List ℕ
   pub address : ℕ
 
--- the profile's part; --gc-sections; -z muldefs; -N, by which memory may be written and executed, and -z execstack; the
--- bits of -z ibt, shstk and lam; -Ttext-segment= and --image-base=; the output sections that have an address; whether all
--- names may be missing (-s) and those that are LOCAL (-x); the script
+-- the profile's part, of which the entry is that of -e, else of a script's ENTRY, else the profile's; --gc-sections; -z
+-- muldefs; -N, by which memory may be written and executed; -z execstack or its no, if one is there; the bits of -z ibt,
+-- shstk and lam; -Ttext-segment= and --image-base=; the output sections that have an address; whether all names may be
+-- missing (-s) and those that are LOCAL (-x); the script
 pub record ForeignPlan : Type 0 where
   pub plan : Plan
   pub collects : Bool
   pub takes_first : Bool
   pub writes_code : Bool
-  pub executes_stack : Bool
+  pub executes_stack : Option Bool
   pub features : ℕ
   pub segment : Option ℕ
   pub starts : List Start

@@ -1,18 +1,20 @@
 -- F13. The section headers and the symbol table of an image, where it has them: they are true (System V gABI 4, "Sections",
 -- "Symbol Table"). Programs run without them; debuggers and profilers believe them.
-use Rattle.std.specs.Prelude.{◌≡◌, ◌⊎◌, ℕ, ◌+◌, ◌-◌, ◌*◌, ◌%◌, ◌^◌, ◌<◌, ◌≤◌, ◌==◌, ◌&&◌, Bool, true, false, not, cond, List, None, Some, All, Any, IsSomeAnd, bit_and, drop, is_some, length, unwrap_or, count_by}
+use Rattle.std.specs.Prelude.{◌≡◌, ◌⊎◌, ℕ, ◌+◌, ◌-◌, ◌*◌, ◌%◌, ◌^◌, ◌<◌, ◌≤◌, ◌==◌, ◌&&◌, Bool, true, false, not, cond, List, None, Some, All, Any, IsSomeAnd, bit_and, drop, find, is_some, length, nat_le, nat_lt, unwrap_or, count_by}
 use Rattle.std.specs.List.{prefix_len, slice_get}
+use Rattle.std.specs.Option.{option_map_or}
 use Rattle.std.specs.Str.{bytes_eq}
+use Rattle.byteview.specs.Numbers.{part, text}
 use Rattle.elf_model.specs.Image.MemoryImage.{loads}
-use Rattle.elf_model.specs.Inputs.ObjectFile.{has_no_bytes, name_of_symbol, sections, symbol_table, symbols}
-use Rattle.elf_model.specs.Inputs.Records.{file_header}
+use Rattle.elf_model.specs.Inputs.ObjectFile.{contents, entries, has_no_bytes, section, symbol_table, symbols_of}
+use Rattle.elf_model.specs.Inputs.Records.{file_header, section_header}
 use Rattle.elf_model.specs.Link.LinkerValues.{start_of_pieces}
 use Rattle.elf_model.specs.Link.Meaning.{Common, Linker, Meaning, Symbol, is_in_thread_storage, meaning_size}
 use Rattle.elf_model.specs.Link.Pieces.{is_alloc, is_nobits, is_thread_local, is_thread_piece, load_size}
-use Rattle.elf_model.specs.Link.Placement.{Placed}
+use Rattle.elf_model.specs.Link.Placement.{Placed, is_of_section}
 use Rattle.elf_model.specs.Link.Relocation.{is_local}
 use Rattle.elf_model.specs.Link.Resolution.{SymbolOf, all_symbols, binding, is_undefined, is_weak, symbol_type}
-use Rattle.elf_model.specs.declared.constants.TheConstants.{SHN_ABS, STB_LOCAL, STT_FILE, STT_NOTYPE, STT_OBJECT, STT_SECTION}
+use Rattle.elf_model.specs.declared.constants.TheConstants.{SHN_ABS, SHN_LORESERVE, STB_LOCAL, STT_FILE, STT_NOTYPE, STT_OBJECT, STT_SECTION}
 use Rattle.elf_model.specs.declared.records.ProgramHeader.{ProgramHeader}
 use Rattle.elf_model.specs.declared.records.SectionHeader.{SectionHeader}
 use Rattle.elf_model.specs.declared.records.Symbol as entry
@@ -22,6 +24,30 @@ use Rattle.judge_model.specs.Certificates.{value_of_name}
 use Rattle.judge_model.specs.Placed.{needed_rights}
 
 -- Section headers.
+
+-- Their number is e_shnum; where this is 0 and there is a table, which has more than e_shnum can tell, it is sh_size of the
+-- first (gABI 4, "ELF Header"). The symbols of the table among them, and their names.
+abbrev pub has_first : List ℕ → Bool
+has_first image = nat_lt 0 (file_header image).e_shoff && nat_le ((file_header image).e_shoff + 64) (length image)
+
+abbrev pub is_counted_there : List ℕ → Bool
+is_counted_there image = (file_header image).e_shnum == 0 && has_first image
+
+abbrev pub section_count : List ℕ → ℕ
+section_count image =
+    cond (is_counted_there image) (section_header (part image (file_header image).e_shoff 64)).sh_size (file_header image).e_shnum
+
+abbrev pub image_sections : List ℕ → List SectionHeader
+image_sections image = entries section_header 64 image (file_header image).e_shoff (section_count image)
+
+abbrev pub image_symbols : List ℕ → List entry.Symbol
+image_symbols image = symbols_of image (image_sections image)
+
+abbrev pub strings_of : List ℕ → List SectionHeader → List ℕ
+strings_of image ss = contents image (section ss (symbol_table ss).sh_link)
+
+abbrev pub name_of_entry : List ℕ → entry.Symbol → List ℕ
+name_of_entry image e = text (strings_of image (image_sections image)) e.st_name
 
 -- a section with SHF_ALLOC is in a segment with its rights, and where it has bytes these are the segment's there
 abbrev pub IsMappedBy : SectionHeader → ProgramHeader → Type 0
@@ -46,16 +72,41 @@ LiesInSection q h = (is_in_memory h ≡ true) × (h.sh_addr ≤ q.at) × (q.at +
 
 abbrev pub AreCovered : ForeignLink → Type 0
 AreCovered l =
-    Any (λ h. is_in_memory h ≡ true) (sections l.image)
-    → All (λ q. 0 < load_size q.piece → Any (LiesInSection q) (sections l.image)) (placed_of l)
+    Any (λ h. is_in_memory h ≡ true) (image_sections l.image)
+    → All (λ q. 0 < load_size q.piece → Any (LiesInSection q) (image_sections l.image)) (placed_of l)
 
 -- Symbols.
 
--- an entry stands in the section that has its value, or names none
+-- what st_shndx is where it has no room for a section's number (gABI 4, SHN_XINDEX)
+abbrev pub shn_xindex : ℕ
+shn_xindex = 0xffff
+
+-- An entry stands in the section that has its value, or names none; or st_shndx has no room for the number of its section,
+-- where there are so many. One of what takes up no memory may stand in any: what a linker defines, as `__ehdr_start` of all,
+-- and what is defined in an empty section.
+abbrev pub is_beyond_numbers : List ℕ → entry.Symbol → Bool
+is_beyond_numbers image e = e.st_shndx == shn_xindex && nat_le SHN_LORESERVE (section_count image)
+
 abbrev pub IsOfSection : List ℕ → entry.Symbol → ℕ → Type 0
 IsOfSection image e v =
     (e.st_shndx ≡ SHN_ABS)
-    ⊎ IsSomeAnd (slice_get (sections image) e.st_shndx) (λ h. (h.sh_addr ≤ v) × (v ≤ h.sh_addr + h.sh_size))
+    ⊎ (is_beyond_numbers image e ≡ true)
+    ⊎ IsSomeAnd (slice_get (image_sections image) e.st_shndx) (λ h. (h.sh_addr ≤ v) × (v ≤ h.sh_addr + h.sh_size))
+
+abbrev pub IsOfSome : List ℕ → entry.Symbol → Type 0
+IsOfSome image e = (is_undefined e ≡ false) × (e.st_shndx < length (image_sections image))
+
+abbrev pub is_in_empty : ForeignLink → SymbolOf → Bool
+is_in_empty l s =
+    option_map_or (λ q. q.piece.size == 0) (find (is_of_section s.object s.entry.st_shndx) (placed_of l)) false
+
+abbrev pub takes_no_memory : ForeignLink → Meaning → Bool
+takes_no_memory l (Symbol s) = is_in_empty l s
+takes_no_memory l (Common b) = false
+takes_no_memory l (Linker name bound) = true
+
+abbrev pub StandsRight : ForeignLink → entry.Symbol → Meaning → ℕ → Type 0
+StandsRight l e m v = IsOfSection l.image e v ⊎ ((takes_no_memory l m ≡ true) × IsOfSome l.image e)
 
 -- the value of an entry: that of what it names; of a thread-local one the offset from the block's beginning
 abbrev pub block_start : ForeignLink → ℕ
@@ -79,7 +130,7 @@ pub record IsEntryOf (l : ForeignLink) (e : entry.Symbol) (m : Meaning) (v : ℕ
   pub size : (e.st_size ≡ meaning_size m) ⊎ (e.st_size ≡ 0)
   pub type_ : HasTypeOf e m
   pub binding_ : HasBindingOf e m
-  pub section : IsOfSection l.image e v
+  pub section : StandsRight l e m v
 
 -- it names what its name means to all objects
 abbrev pub IsGlobalEntry : ForeignLink → List ℕ → entry.Symbol → Type 0
@@ -116,21 +167,21 @@ pub record IsFile (e : entry.Symbol) : Type 0 where
 pub record IsSection (image : List ℕ) (e : entry.Symbol) : Type 0 where
   pub type_ : symbol_type e ≡ STT_SECTION
   pub binding_ : binding e ≡ STB_LOCAL
-  pub value : IsSomeAnd (slice_get (sections image) e.st_shndx) (λ h. e.st_value ≡ h.sh_addr)
+  pub value : IsSomeAnd (slice_get (image_sections image) e.st_shndx) (λ h. e.st_value ≡ h.sh_addr)
 
 abbrev pub IsEntryRight : ForeignLink → entry.Symbol → Type 0
 IsEntryRight l e =
-    IsGlobalEntry l (name_of_symbol l.image e) e
-    ⊎ IsLocalEntry l (name_of_symbol l.image e) e
-    ⊎ IsScriptEntry l (name_of_symbol l.image e) e
-    ⊎ IsMissing l (name_of_symbol l.image e) e
+    IsGlobalEntry l (name_of_entry l.image e) e
+    ⊎ IsLocalEntry l (name_of_entry l.image e) e
+    ⊎ IsScriptEntry l (name_of_entry l.image e) e
+    ⊎ IsMissing l (name_of_entry l.image e) e
     ⊎ IsFile e
     ⊎ IsSection l.image e
 
 -- Each name is there that objects define and the image has, unless the words strip; those in thread-local storage may be
 -- missing. sh_info is the number of the LOCAL symbols, which come first.
 abbrev pub has_this_name : ForeignLink → List ℕ → entry.Symbol → Bool
-has_this_name l name e = bytes_eq (name_of_symbol l.image e) name
+has_this_name l name e = bytes_eq (name_of_entry l.image e) name
 
 abbrev pub is_tabled : ForeignLink → SymbolOf → Bool
 is_tabled l s =
@@ -139,22 +190,22 @@ is_tabled l s =
     && (is_some (symbol_value l s) && not (is_in_thread_storage (objects_of l) (Symbol s))))
 
 abbrev pub AreThere : ForeignLink → Type 0
-AreThere l = All (λ s. is_tabled l s ≡ true → Any (λ e. has_this_name l s.name e ≡ true) (symbols l.image)) (all_symbols (objects_of l))
+AreThere l = All (λ s. is_tabled l s ≡ true → Any (λ e. has_this_name l s.name e ≡ true) (image_symbols l.image)) (all_symbols (objects_of l))
 
 abbrev pub is_local_entry : entry.Symbol → Bool
 is_local_entry e = binding e == STB_LOCAL
 
 pub record IsTableRight (l : ForeignLink) : Type 0 where
-  pub entries : All (IsEntryRight l) (drop 1 (symbols l.image))
+  pub entries_are : All (IsEntryRight l) (drop 1 (image_symbols l.image))
   pub there : l.plan.strips ≡ false → AreThere l
-  pub local_first : (symbol_table (sections l.image)).sh_info ≡ prefix_len is_local_entry (symbols l.image)
-  pub local_all : (symbol_table (sections l.image)).sh_info ≡ count_by is_local_entry (symbols l.image)
+  pub local_first : (symbol_table (image_sections l.image)).sh_info ≡ prefix_len is_local_entry (image_symbols l.image)
+  pub local_all : (symbol_table (image_sections l.image)).sh_info ≡ count_by is_local_entry (image_symbols l.image)
 
 pub record AreTablesRight (l : ForeignLink) : Type 0 where
-  pub inside : (file_header l.image).e_shoff + 64 * (file_header l.image).e_shnum ≤ length l.image
-  pub sections_are : All (IsSectionTrue l.image) (sections l.image)
+  pub inside : (file_header l.image).e_shoff + 64 * section_count l.image ≤ length l.image
+  pub sections_are : All (IsSectionTrue l.image) (image_sections l.image)
   pub covered : AreCovered l
-  pub symbols_are : 0 < length (symbols l.image) → IsTableRight l
+  pub symbols_are : 0 < length (image_symbols l.image) → IsTableRight l
 
 abbrev pub HasTables : List ℕ → Type 0
-HasTables image = 0 < (file_header image).e_shnum
+HasTables image = 0 < section_count image

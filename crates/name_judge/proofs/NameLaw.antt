@@ -1,11 +1,12 @@
 -- The names of a link are right by its addresses exactly where they are right.
-use Rattle.std.proofs.Common.{◌≡◌, ◌∙◌, inl, inr, ℕ, ◌+◌, ◌<◌, ◌≤◌, List, [], ◌∷◌, Option, None, Some, subst, sym}
+use Rattle.std.proofs.Common.{◌≡◌, ◌∙◌, ◌⊎◌, inl, inr, ℕ, ◌+◌, ◌<◌, ◌≤◌, List, [], ◌∷◌, Option, None, Some, subst, sym}
 use Rattle.std.specs.Prelude.{◌↔◌, All, IfSome, codes, unwrap_or}
 use Rattle.std.specs.Borrow.{Bor}
 use Rattle.std.specs.BTreeMap.{BTreeMap}
 use Rattle.std.proofs.lemmas.List.Elements.{All-cons, All-head, All-nil, All-tail, All-weaker}
 use Rattle.elf_model.specs.Image.MemoryImage.{loads}
 use Rattle.elf_model.specs.Link.LinkerNames.{named_output}
+use Rattle.elf_model.specs.Link.LinkerValues.{end_of_pieces, is_code_piece, is_file_data}
 use Rattle.elf_model.specs.Link.Placement.{Covers}
 use Rattle.elf_model.specs.declared.bound.Bound.{Bound}
 use Rattle.elf_model.specs.declared.bound.Bound.TheVariants.{CodeEnd, DataEnd, GotStart, ImageEnd, ImageStart, OutputEnd, OutputStart, ZeroStart}
@@ -15,11 +16,12 @@ use Rattle.check_link.specs.Outputs.{AreSpans, end_of, start_of}
 use Rattle.check_link.specs.declared.bounds.Span.{Span}
 use Rattle.judge_model.specs.Certificates.{NameRow}
 use Rattle.judge_model.specs.Links.{ForeignLink, placed_of}
-use Rattle.judge_model.specs.Names.{AreNamesRight, IsAt, IsBoundAt, IsBoundRight, IsEnd, IsImageEnd, IsPairRight, IsStart, bound_of, pair, pairs, start_of_output}
+use Rattle.judge_model.specs.Memory.{IsInReach}
+use Rattle.judge_model.specs.Names.{AreNamesRight, IsAt, IsBoundAt, IsBoundRight, IsCodeEnd, IsEnd, IsImageEnd, IsPairRight, IsStart, EndsSegment, bound_of, pair, pairs, start_of_output}
 use Rattle.judge_model.specs.Placed.{things_of}
 use Rattle.judge_model.specs.declared.certificate.NoteLine.{NoteLine}
 use Rattle.link_fields.specs.Parts.{Parts, parts_of}
-use Rattle.name_judge.specs.Bounds.{AreMarks, AreNamesBy, ArePairsOne, EndsAt, IsBoundBy, IsEndOfAll, IsPairOne, IsRowRight, SpanEnds, SpanStarts, StartsAt}
+use Rattle.name_judge.specs.Bounds.{AreMarks, AreNamesBy, ArePairsOne, BeginsAt, CodeEndsAt, EndsAt, IsBoundBy, IsEndOfAll, IsNoEnd, IsPairOne, IsReached, IsRowRight, SpanEnds, SpanStarts, ZerosStart}
 use Rattle.name_judge.specs.Clear.{EndsBy, IsBeside, IsLastIn, IsNextIn}
 use Rattle.name_judge.specs.declared.marks.Marks.{Marks}
 
@@ -36,40 +38,77 @@ if_some P Q None both = (λ h. h, λ h. h)
 if_some P Q (Some x) both = both x
 
 module _ (l : ForeignLink) where
-  end_iff : (end : ℕ) (next : Option ℕ) (v : ℕ) → IsNextIn (things_of l) end next → EndsAt (loads l.image) end next v ↔ IsEnd l end v
-  end_iff end next v are = (to, from)
-    where
-      to : EndsAt (loads l.image) end next v → IsEnd l end v
-      to (inl e) = inl e
-      to (inr b) = inr (record { behind = b.behind; inside = b.inside; clear = clear_of (things_of l) end v ((are.told v).0 b.clear) })
-
-      from : IsEnd l end v → EndsAt (loads l.image) end next v
-      from (inl e) = inl e
-      from (inr b) = inr (record { behind = b.behind; inside = b.inside; clear = (are.told v).1 (beside_of (things_of l) end v b.clear) })
-
-  start_iff :
-      (start last : Option ℕ) (v : ℕ) → IfSome start (λ a. IsLastIn (things_of l) a last) →
-      StartsAt (loads l.image) start last v ↔ IsStart l v start
-  start_iff None last v are = (λ h. h, λ h. h)
-  start_iff (Some start) last v are = (to, from)
-    where
-      to : StartsAt (loads l.image) (Some start) last v → IsStart l v (Some start)
-      to (inl e) = inl e
-      to (inr b) = inr (record { ahead = b.ahead; inside = b.inside; clear = clear_of (things_of l) v start ((are.told v).0 b.clear) })
-
-      from : IsStart l v (Some start) → StartsAt (loads l.image) (Some start) last v
-      from (inl e) = inl e
-      from (inr b) = inr (record { ahead = b.ahead; inside = b.inside; clear = (are.told v).1 (beside_of (things_of l) v start b.clear) })
-
-  span_start : (o : Option Span) (v : ℕ) → SpanStarts (loads l.image) o v ↔ IsAt l v (unwrap_or (start_of o) 0) (start_of o)
-  span_start None v = (λ h. h, λ h. h)
-  span_start (Some s) v = (λ h. h, λ h. h)
-
-  span_end : (o : Option Span) (v : ℕ) → SpanEnds (loads l.image) o v ↔ IsAt l v (end_of o) (start_of o)
-  span_end None v = (λ h. h, λ h. h)
-  span_end (Some s) v = (λ h. h, λ h. h)
-
   module _ (m : Marks) (marks : AreMarks (loads l.image) (placed_of l) (things_of l) l.certificate.notes m) where
+    reach_to : (v : ℕ) → IsReached (loads l.image) m v → IsInReach (loads l.image) v
+    reach_to v r = record { low = r.low; high = subst (λ (n : ℕ). v ≤ n) marks.limit r.high }
+
+    reach_of : (v : ℕ) → IsInReach (loads l.image) v → IsReached (loads l.image) m v
+    reach_of v r = record { low = r.low; high = subst (λ (n : ℕ). v ≤ n) (sym marks.limit) r.high }
+
+    end_iff : (end : ℕ) (next : Option ℕ) (v : ℕ) → IsNextIn (things_of l) end next → EndsAt (loads l.image) m end next v ↔ IsEnd l end v
+    end_iff end next v are = (to, from)
+      where
+        to : EndsAt (loads l.image) m end next v → IsEnd l end v
+        to (inl e) = inl e
+        to (inr (inl b)) =
+            inr (inl (record { behind = b.behind; inside = b.inside; clear = clear_of (things_of l) end v ((are.told v).0 b.clear) }))
+        to (inr (inr n)) = inr (inr (n.none, reach_to v n.reached))
+
+        from : IsEnd l end v → EndsAt (loads l.image) m end next v
+        from (inl e) = inl e
+        from (inr (inl b)) =
+            inr (inl (record { behind = b.behind; inside = b.inside; clear = (are.told v).1 (beside_of (things_of l) end v b.clear) }))
+        from (inr (inr n)) = inr (inr (record { none = n.0; reached = reach_of v n.1 }))
+
+    data_iff : (v : ℕ) → EndsAt (loads l.image) m m.data_end m.data_next v ↔ IsEnd l (end_of_pieces is_file_data (placed_of l)) v
+    data_iff v =
+        subst (λ (n : ℕ). EndsAt (loads l.image) m m.data_end m.data_next v ↔ IsEnd l n v) marks.data_end
+        (end_iff m.data_end m.data_next v marks.data_next)
+
+    code_iff : (v : ℕ) → CodeEndsAt (loads l.image) m v ↔ IsCodeEnd l (end_of_pieces is_code_piece (placed_of l)) v
+    code_iff v = subst (λ (n : ℕ). CodeEndsAt (loads l.image) m v ↔ IsCodeEnd l n v) marks.code_end (to, from)
+      where
+        own : EndsAt (loads l.image) m m.code_end m.code_next v ↔ IsEnd l m.code_end v
+        own = end_iff m.code_end m.code_next v marks.code_next
+
+        to : CodeEndsAt (loads l.image) m v → IsCodeEnd l m.code_end v
+        to (inl e) = inl (own.0 e)
+        to (inr s) = inr s
+
+        from : IsCodeEnd l m.code_end v → CodeEndsAt (loads l.image) m v
+        from (inl e) = inl (own.1 e)
+        from (inr s) = inr s
+
+    zeros_iff :
+        (start : Option ℕ) (v : ℕ) → IfSome start (λ a. IsLastIn (things_of l) a m.zero_last) →
+        ZerosStart (loads l.image) m start v ↔ IsStart l (end_of_pieces is_file_data (placed_of l)) v start
+    zeros_iff None v are = data_iff v
+    zeros_iff (Some start) v are = (to, from)
+      where
+        to : BeginsAt (loads l.image) start m.zero_last v → IsStart l (end_of_pieces is_file_data (placed_of l)) v (Some start)
+        to (inl e) = inl e
+        to (inr b) = inr (record { ahead = b.ahead; inside = b.inside; clear = clear_of (things_of l) v start ((are.told v).0 b.clear) })
+
+        from : IsStart l (end_of_pieces is_file_data (placed_of l)) v (Some start) → BeginsAt (loads l.image) start m.zero_last v
+        from (inl e) = inl e
+        from (inr b) = inr (record { ahead = b.ahead; inside = b.inside; clear = (are.told v).1 (beside_of (things_of l) v start b.clear) })
+
+    nowhere_to : (v : ℕ) → (v ≡ 0) ⊎ IsReached (loads l.image) m v → (v ≡ 0) ⊎ IsInReach (loads l.image) v
+    nowhere_to v (inl e) = inl e
+    nowhere_to v (inr r) = inr (reach_to v r)
+
+    nowhere_of : (v : ℕ) → (v ≡ 0) ⊎ IsInReach (loads l.image) v → (v ≡ 0) ⊎ IsReached (loads l.image) m v
+    nowhere_of v (inl e) = inl e
+    nowhere_of v (inr r) = inr (reach_of v r)
+
+    span_start : (o : Option Span) (v : ℕ) → SpanStarts (loads l.image) m o v ↔ IsAt l v (unwrap_or (start_of o) 0) (start_of o)
+    span_start None v = (nowhere_to v, nowhere_of v)
+    span_start (Some s) v = (λ h. h, λ h. h)
+
+    span_end : (o : Option Span) (v : ℕ) → SpanEnds (loads l.image) m o v ↔ IsAt l v (end_of o) (start_of o)
+    span_end None v = (nowhere_to v, nowhere_of v)
+    span_end (Some s) v = (λ h. h, λ h. h)
+
     all_end : (v : ℕ) → IsEndOfAll m v ↔ IsImageEnd l v
     all_end v = (
       λ h. record {
@@ -92,24 +131,20 @@ module _ (l : ForeignLink) where
           (name : List ℕ) (v : ℕ) (b : Bound) →
           IsBoundBy (loads l.image) m l.certificate.got (found_in spans (named_output name)) v b ↔ IsBoundAt l name v b
       bound_iff name v ImageStart = (λ h. h, λ h. h)
-      bound_iff name v CodeEnd =
-          subst (λ (n : ℕ). EndsAt (loads l.image) m.code_end m.code_next v ↔ IsEnd l n v) marks.code_end
-          (end_iff m.code_end m.code_next v marks.code_next)
-      bound_iff name v DataEnd =
-          subst (λ (n : ℕ). EndsAt (loads l.image) m.data_end m.data_next v ↔ IsEnd l n v) marks.data_end
-          (end_iff m.data_end m.data_next v marks.data_next)
+      bound_iff name v CodeEnd = code_iff v
+      bound_iff name v DataEnd = data_iff v
       bound_iff name v ZeroStart =
-          subst (λ (o : Option ℕ). StartsAt (loads l.image) m.zero_start m.zero_last v ↔ IsStart l v o) marks.zero_start
-          (start_iff m.zero_start m.zero_last v marks.zero_last)
+          subst (λ (o : Option ℕ). ZerosStart (loads l.image) m m.zero_start v ↔ IsStart l (end_of_pieces is_file_data (placed_of l)) v o)
+          marks.zero_start (zeros_iff m.zero_start v marks.zero_last)
       bound_iff name v ImageEnd = all_end v
       bound_iff name v GotStart = (λ h. h, λ h. h)
       bound_iff name v OutputStart =
           let o = found_in spans (named_output name) in
-          subst (λ (s : Option ℕ). SpanStarts (loads l.image) o v ↔ IsAt l v (unwrap_or s 0) s) (are.starts (named_output name)) (span_start o v)
+          subst (λ (s : Option ℕ). SpanStarts (loads l.image) m o v ↔ IsAt l v (unwrap_or s 0) s) (are.starts (named_output name)) (span_start o v)
       bound_iff name v OutputEnd =
           let o = found_in spans (named_output name) in
-          subst (λ (n : ℕ). SpanEnds (loads l.image) o v ↔ IsAt l v n (start_of_output l (named_output name))) (are.ends (named_output name))
-          (subst (λ (s : Option ℕ). SpanEnds (loads l.image) o v ↔ IsAt l v (end_of o) s) (are.starts (named_output name)) (span_end o v))
+          subst (λ (n : ℕ). SpanEnds (loads l.image) m o v ↔ IsAt l v n (start_of_output l (named_output name))) (are.ends (named_output name))
+          (subst (λ (s : Option ℕ). SpanEnds (loads l.image) m o v ↔ IsAt l v (end_of o) s) (are.starts (named_output name)) (span_end o v))
 
       row_to : (row : NameRow) → IsRowRight (parts_of l) m spans row → IsBoundRight l row
       row_to row r none =

@@ -1,5 +1,5 @@
 -- The values that names of the linker's may have, by a few addresses of a link.
-use Rattle.std.specs.Prelude.{◌≡◌, ◌⊎◌, ℕ, ◌+◌, ◌-◌, ◌*◌, ◌^◌, ◌≤◌, List, None, Option, Some, All, Any, IfSome, codes}
+use Rattle.std.specs.Prelude.{◌≡◌, ◌⊎◌, ℕ, ◌-◌, ◌≤◌, List, None, Option, Some, All, Any, IfSome, codes}
 use Rattle.std.specs.Borrow.{Bor}
 use Rattle.std.specs.BTreeMap.{BTreeMap}
 use Rattle.elf_model.specs.Image.MemoryImage.{Encloses, first_address, loads}
@@ -15,7 +15,8 @@ use Rattle.check_link.specs.ByName.{found_in}
 use Rattle.check_link.specs.Outputs.{start_of}
 use Rattle.check_link.specs.declared.bounds.Span.{Span}
 use Rattle.judge_model.specs.Certificates.{NameRow, value_of_name}
-use Rattle.judge_model.specs.Names.{memory_end}
+use Rattle.judge_model.specs.Memory.{address_limit}
+use Rattle.judge_model.specs.Names.{EndsSegment, HasPages}
 use Rattle.judge_model.specs.declared.certificate.NoteLine.{NoteLine}
 use Rattle.link_fields.specs.Parts.{Parts, bound_of}
 use Rattle.name_judge.specs.Clear.{IsEndOfNotes, IsFrom, IsLastIn, IsNextIn, IsUpTo}
@@ -31,55 +32,72 @@ pub record AreMarks (hs : List ProgramHeader) (qs : List Placed) (ts : List Thin
   pub zero_last : IfSome m.zero_start (λ a. IsLastIn ts a m.zero_last)
   pub image_end : m.image_end ≡ end_of_pieces is_loaded_piece qs
   pub notes_end : IsEndOfNotes ns m.notes_end
-  pub limit : m.limit ≡ memory_end hs + 2 * 2 ^ 21
+  pub limit : m.limit ≡ address_limit hs
 
--- at an end, or behind it in its segment and before whatever comes next
+-- an address is among those of the segments, or not far behind them
+pub record IsReached (hs : List ProgramHeader) (m : Marks) (v : ℕ) : Type 0 where
+  pub low : first_address hs ≤ v
+  pub high : v ≤ m.limit
+
+-- at an end, or behind it in its segment and before whatever comes next; or near, where it is the end of nothing
 pub record IsBehindMark (hs : List ProgramHeader) (end : ℕ) (next : Option ℕ) (v : ℕ) : Type 0 where
   pub behind : end ≤ v
   pub inside : Any (λ h. Encloses h end (v - end)) hs
   pub clear : IsUpTo v next
 
-abbrev pub EndsAt : List ProgramHeader → ℕ → Option ℕ → ℕ → Type 0
-EndsAt hs end next v = (v ≡ end) ⊎ IsBehindMark hs end next v
+pub record IsNoEnd (hs : List ProgramHeader) (m : Marks) (end v : ℕ) : Type 0 where
+  pub none : end ≡ 0
+  pub reached : IsReached hs m v
 
--- at no address, or at one of memory
-abbrev pub IsNowhereIn : List ProgramHeader → ℕ → Type 0
-IsNowhereIn hs v = (v ≡ 0) ⊎ Any (λ h. Encloses h v 0) hs
+abbrev pub EndsAt : List ProgramHeader → Marks → ℕ → Option ℕ → ℕ → Type 0
+EndsAt hs m end next v = (v ≡ end) ⊎ IsBehindMark hs end next v ⊎ IsNoEnd hs m end v
 
--- at a start, or before it in its segment and behind whatever comes before
+-- the same of code, or at the end of its segment
+abbrev pub CodeEndsAt : List ProgramHeader → Marks → ℕ → Type 0
+CodeEndsAt hs m v = EndsAt hs m m.code_end m.code_next v ⊎ Any (EndsSegment m.code_end v) hs
+
+-- at no address, or near
+abbrev pub IsNowhereIn : List ProgramHeader → Marks → ℕ → Type 0
+IsNowhereIn hs m v = (v ≡ 0) ⊎ IsReached hs m v
+
+-- where zeros begin, or before that on the pages of their segment and behind whatever comes before; where there are none at
+-- the end of data
 pub record IsAheadMark (hs : List ProgramHeader) (start : ℕ) (last : Option ℕ) (v : ℕ) : Type 0 where
   pub ahead : v ≤ start
-  pub inside : Any (λ h. Encloses h v (start - v)) hs
+  pub inside : Any (HasPages start v) hs
   pub clear : IsFrom v last
 
-abbrev pub StartsAt : List ProgramHeader → Option ℕ → Option ℕ → ℕ → Type 0
-StartsAt hs None last v = IsNowhereIn hs v
-StartsAt hs (Some start) last v = (v ≡ start) ⊎ IsAheadMark hs start last v
+abbrev pub BeginsAt : List ProgramHeader → ℕ → Option ℕ → ℕ → Type 0
+BeginsAt hs start last v = (v ≡ start) ⊎ IsAheadMark hs start last v
+
+abbrev pub ZerosStart : List ProgramHeader → Marks → Option ℕ → ℕ → Type 0
+ZerosStart hs m None v = EndsAt hs m m.data_end m.data_next v
+ZerosStart hs m (Some start) v = BeginsAt hs start m.zero_last v
 
 pub record IsEndOfAll (m : Marks) (v : ℕ) : Type 0 where
   pub behind : m.image_end ≤ v
   pub notes : m.notes_end ≤ v
   pub near : v ≤ m.limit
 
--- where the span of an output name begins and ends; anywhere without one
-abbrev pub SpanStarts : List ProgramHeader → Option Span → ℕ → Type 0
-SpanStarts hs None v = IsNowhereIn hs v
-SpanStarts hs (Some s) v = v ≡ s.start
+-- where the span of an output name begins and ends; at no address or near without one
+abbrev pub SpanStarts : List ProgramHeader → Marks → Option Span → ℕ → Type 0
+SpanStarts hs m None v = IsNowhereIn hs m v
+SpanStarts hs m (Some s) v = v ≡ s.start
 
-abbrev pub SpanEnds : List ProgramHeader → Option Span → ℕ → Type 0
-SpanEnds hs None v = IsNowhereIn hs v
-SpanEnds hs (Some s) v = v ≡ s.end
+abbrev pub SpanEnds : List ProgramHeader → Marks → Option Span → ℕ → Type 0
+SpanEnds hs m None v = IsNowhereIn hs m v
+SpanEnds hs m (Some s) v = v ≡ s.end
 
 -- a value of a bound, by the addresses of a link and the span of the output name of which its name speaks
 abbrev pub IsBoundBy : List ProgramHeader → Marks → Option ℕ → Option Span → ℕ → Bound → Type 0
 IsBoundBy hs m got span v ImageStart = v ≡ first_address hs
-IsBoundBy hs m got span v CodeEnd = EndsAt hs m.code_end m.code_next v
-IsBoundBy hs m got span v DataEnd = EndsAt hs m.data_end m.data_next v
-IsBoundBy hs m got span v ZeroStart = StartsAt hs m.zero_start m.zero_last v
+IsBoundBy hs m got span v CodeEnd = CodeEndsAt hs m v
+IsBoundBy hs m got span v DataEnd = EndsAt hs m m.data_end m.data_next v
+IsBoundBy hs m got span v ZeroStart = ZerosStart hs m m.zero_start v
 IsBoundBy hs m got span v ImageEnd = IsEndOfAll m v
 IsBoundBy hs m got span v GotStart = got ≡ Some v
-IsBoundBy hs m got span v OutputStart = SpanStarts hs span v
-IsBoundBy hs m got span v OutputEnd = SpanEnds hs span v
+IsBoundBy hs m got span v OutputStart = SpanStarts hs m span v
+IsBoundBy hs m got span v OutputEnd = SpanEnds hs m span v
 
 -- the value of a row is one of its name's bound, unless objects define the name
 pub record IsRowRight (p : Parts) (m : Marks) (spans : BTreeMap (Bor (List ℕ)) Span) (row : NameRow) : Type 0 where

@@ -1,13 +1,17 @@
 //! Whether an address is where a bound may be.
 ghost use Rattle.std.specs.Prelude.{◌≡◌, ◌↔◌, Any, IsTrue};
 ghost use Rattle.elf_model.specs.Image.MemoryImage.{Encloses, first_address, loads};
-ghost use Rattle.name_judge.specs.Bounds.{EndsAt, IsBoundBy, IsEndOfAll, IsNowhereIn, SpanEnds, SpanStarts, StartsAt};
+ghost use Rattle.judge_model.specs.Names.{EndsSegment, HasPages};
+ghost use Rattle.name_judge.specs.Bounds.{BeginsAt, CodeEndsAt, EndsAt, IsBehindMark, IsBoundBy, IsEndOfAll, IsNoEnd, IsNowhereIn, IsReached, SpanEnds, SpanStarts, ZerosStart};
 ghost use Rattle.name_judge.specs.Clear.{IsFrom, IsUpTo};
 
 use crate::marks::Marks;
 use check_link::Span;
-use elf_model::{Bound, ProgramHeader};
+use elf_model::{Bound, PF_W, ProgramHeader};
 use foreign_image::ForeignImage;
+
+/// The size of a page on x86-64.
+const PAGE: u64 = 4096;
 
 /// Whether a range of addresses lies in one segment.
 fn is_inside(image: &ForeignImage<'_>, from: u64, len: u64) -> bool
@@ -16,10 +20,18 @@ fn is_inside(image: &ForeignImage<'_>, from: u64, len: u64) -> bool
     image.run(from, len).is_some()
 }
 
-fn is_nowhere(image: &ForeignImage<'_>, value: u64) -> bool
-    ensures { IsTrue result ↔ IsNowhereIn (loads image.now) value }
+/// Whether an address is among those of the segments, or not far behind them.
+fn is_reached(image: &ForeignImage<'_>, marks: &Marks, value: u64) -> bool
+    ensures { IsTrue result ↔ IsReached (loads image.now) marks.now value }
 {
-    value == 0 || is_inside(image, value, 0)
+    let first = first_address(image.segments());
+    first <= value && value <= marks.limit
+}
+
+fn is_nowhere(image: &ForeignImage<'_>, marks: &Marks, value: u64) -> bool
+    ensures { IsTrue result ↔ IsNowhereIn (loads image.now) marks.now value }
+{
+    value == 0 || is_reached(image, marks, value)
 }
 
 fn is_up_to(value: u64, next: Option<u64>) -> bool
@@ -40,22 +52,81 @@ fn is_from(value: u64, last: Option<u64>) -> bool
     }
 }
 
-/// Whether an address is at an end, or behind it and not behind whatever comes next.
-fn ends_at(image: &ForeignImage<'_>, end: u64, next: Option<u64>, value: u64) -> bool
-    ensures { IsTrue result ↔ EndsAt (loads image.now) end next value }
+/// Whether an address is behind an end, in its segment and not behind whatever comes next.
+fn is_behind(image: &ForeignImage<'_>, end: u64, next: Option<u64>, value: u64) -> bool
+    ensures { IsTrue result ↔ IsBehindMark (loads image.now) end next value }
 {
-    if value == end {
-        return true;
-    }
     if value < end || !is_up_to(value, next) {
         return false;
     }
     is_inside(image, end, value - end)
 }
 
-/// Whether an address is at a start, or before it and not before whatever comes in front.
-fn starts_before(image: &ForeignImage<'_>, start: u64, last: Option<u64>, value: u64) -> bool
-    ensures { IsTrue result ↔ StartsAt (loads image.now) (Some start) last value }
+/// Whether an address is near, where an end is that of nothing.
+fn is_no_end(image: &ForeignImage<'_>, marks: &Marks, end: u64, value: u64) -> bool
+    ensures { IsTrue result ↔ IsNoEnd (loads image.now) marks.now end value }
+{
+    if end != 0 {
+        return false;
+    }
+    is_reached(image, marks, value)
+}
+
+/// Whether an address is at an end, or behind it and not behind whatever comes next; or near, where it is the end of nothing.
+fn ends_at(image: &ForeignImage<'_>, marks: &Marks, end: u64, next: Option<u64>, value: u64) -> bool
+    ensures { IsTrue result ↔ EndsAt (loads image.now) marks.now end next value }
+{
+    if value == end || is_behind(image, end, next, value) {
+        return true;
+    }
+    is_no_end(image, marks, end, value)
+}
+
+/// Whether an address is the end of a segment that can't be written, in which an end is.
+fn ends_segment(h: &ProgramHeader, end: u64, value: u64) -> bool
+    ensures { IsTrue result ↔ EndsSegment end value h.now }
+{
+    if end <= h.p_vaddr || value < end || h.p_flags & PF_W != 0 {
+        return false;
+    }
+    value - h.p_vaddr == h.p_memsz
+}
+
+fn ends_a_segment(segments: &[ProgramHeader], end: u64, value: u64) -> bool
+    ensures { IsTrue result ↔ Any (EndsSegment end value) segments.now }
+{
+    segments.iter().any(|h| ends_segment(h, end, value))
+}
+
+/// Whether an address is at the end of code, or of its segment.
+fn code_ends_at(image: &ForeignImage<'_>, marks: &Marks, value: u64) -> bool
+    ensures { IsTrue result ↔ CodeEndsAt (loads image.now) marks.now value }
+{
+    if ends_at(image, marks, marks.code_end, marks.code_next, value) {
+        return true;
+    }
+    ends_a_segment(image.segments(), marks.code_end, value)
+}
+
+/// Whether the pages of a segment reach down to an address, and the segment up to a start.
+fn has_pages(h: &ProgramHeader, start: u64, value: u64) -> bool
+    ensures { IsTrue result ↔ HasPages start value h.now }
+{
+    if value < h.p_vaddr / PAGE * PAGE {
+        return false;
+    }
+    start <= h.p_vaddr || start - h.p_vaddr <= h.p_memsz
+}
+
+fn is_on_pages(segments: &[ProgramHeader], start: u64, value: u64) -> bool
+    ensures { IsTrue result ↔ Any (HasPages start value) segments.now }
+{
+    segments.iter().any(|h| has_pages(h, start, value))
+}
+
+/// Whether an address is at a start, or before it on the pages of its segment and not before whatever comes in front.
+fn begins_at(image: &ForeignImage<'_>, start: u64, last: Option<u64>, value: u64) -> bool
+    ensures { IsTrue result ↔ BeginsAt (loads image.now) start last value }
 {
     if value == start {
         return true;
@@ -63,15 +134,16 @@ fn starts_before(image: &ForeignImage<'_>, start: u64, last: Option<u64>, value:
     if start < value || !is_from(value, last) {
         return false;
     }
-    is_inside(image, value, start - value)
+    is_on_pages(image.segments(), start, value)
 }
 
-fn starts_at(image: &ForeignImage<'_>, start: Option<u64>, last: Option<u64>, value: u64) -> bool
-    ensures { IsTrue result ↔ StartsAt (loads image.now) start last value }
+/// Whether an address is where zeros begin, and at the end of data where there are none.
+fn zeros_start(image: &ForeignImage<'_>, marks: &Marks, value: u64) -> bool
+    ensures { IsTrue result ↔ ZerosStart (loads image.now) marks.now marks.now.zero_start value }
 {
-    match start {
-        Some(at) => starts_before(image, at, last, value),
-        None => is_nowhere(image, value),
+    match marks.zero_start {
+        Some(at) => begins_at(image, at, marks.zero_last, value),
+        None => ends_at(image, marks, marks.data_end, marks.data_next, value),
     }
 }
 
@@ -84,21 +156,21 @@ fn is_end_of_all(marks: &Marks, value: u64) -> bool
     marks.notes_end <= value as u128
 }
 
-fn span_starts(image: &ForeignImage<'_>, span: Option<Span>, value: u64) -> bool
-    ensures { IsTrue result ↔ SpanStarts (loads image.now) span value }
+fn span_starts(image: &ForeignImage<'_>, marks: &Marks, span: Option<Span>, value: u64) -> bool
+    ensures { IsTrue result ↔ SpanStarts (loads image.now) marks.now span value }
 {
     match span {
         Some(span) => value == span.start,
-        None => is_nowhere(image, value),
+        None => is_nowhere(image, marks, value),
     }
 }
 
-fn span_ends(image: &ForeignImage<'_>, span: Option<Span>, value: u64) -> bool
-    ensures { IsTrue result ↔ SpanEnds (loads image.now) span value }
+fn span_ends(image: &ForeignImage<'_>, marks: &Marks, span: Option<Span>, value: u64) -> bool
+    ensures { IsTrue result ↔ SpanEnds (loads image.now) marks.now span value }
 {
     match span {
         Some(span) => value == span.end,
-        None => is_nowhere(image, value),
+        None => is_nowhere(image, marks, value),
     }
 }
 
@@ -125,12 +197,12 @@ pub fn is_bound_at(
 {
     match bound {
         Bound::ImageStart => value == first_address(image.segments()),
-        Bound::CodeEnd => ends_at(image, marks.code_end, marks.code_next, value),
-        Bound::DataEnd => ends_at(image, marks.data_end, marks.data_next, value),
-        Bound::ZeroStart => starts_at(image, marks.zero_start, marks.zero_last, value),
+        Bound::CodeEnd => code_ends_at(image, marks, value),
+        Bound::DataEnd => ends_at(image, marks, marks.data_end, marks.data_next, value),
+        Bound::ZeroStart => zeros_start(image, marks, value),
         Bound::ImageEnd => is_end_of_all(marks, value),
         Bound::GotStart => got == Some(value),
-        Bound::OutputStart => span_starts(image, span, value),
-        Bound::OutputEnd => span_ends(image, span, value),
+        Bound::OutputStart => span_starts(image, marks, span, value),
+        Bound::OutputEnd => span_ends(image, marks, span, value),
     }
 }

@@ -1,9 +1,9 @@
 //! The addresses of a link by which the values of its names are judged.
-ghost use Rattle.std.specs.Prelude.{◌≡◌, ◌+◌, ◌*◌, ◌^◌, ◌≤◌, All, IfSome, max};
+ghost use Rattle.std.specs.Prelude.{◌≡◌, ◌+◌, ◌^◌, ◌≤◌, All, IfSome, max};
 ghost use Rattle.elf_model.specs.Image.MemoryImage.{loads};
 ghost use Rattle.check_link.specs.PieceParts.{AreInLimit};
 ghost use Rattle.check_link.specs.Views.{placed_views};
-ghost use Rattle.judge_model.specs.Names.{memory_end};
+ghost use Rattle.judge_model.specs.Memory.{address_limit, memory_end};
 ghost use Rattle.name_judge.specs.Bounds.{AreMarks};
 ghost use Rattle.name_judge.specs.Clear.{IsEndOfNotes, IsLastIn, IsLowEnd};
 
@@ -76,7 +76,7 @@ fn last_before(things: &[Thing], start: Option<u64>) -> Option<u64>
 
 /// The greatest address that a name may have in an image.
 fn limit_of(image: &ForeignImage<'_>) -> u64
-    ensures { result ≡ memory_end (loads image.now) + 2 * 2 ^ 21 }
+    ensures { result ≡ address_limit (loads image.now) }
 {
     let _program = image.image();
     end_of_memory(image.segments()) + MARGIN

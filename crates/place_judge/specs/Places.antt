@@ -15,7 +15,7 @@ use Rattle.check_link.specs.ByName.{found_in}
 use Rattle.check_link.specs.Outputs.{start_of}
 use Rattle.check_link.specs.declared.bounds.Span.{Span}
 use Rattle.judge_model.specs.Certificates.{CertificateRecord, NameRowBefore}
-use Rattle.judge_model.specs.Placed.{LiesIn, needed_rights}
+use Rattle.judge_model.specs.Placed.{HasPlace, needed_rights}
 use Rattle.judge_model.specs.Plans as plans
 use Rattle.place_judge.specs.declared.starts.Start.{Start}
 
@@ -28,9 +28,9 @@ abbrev pub HasPiece : Placed → ProgramHeader → Type 0
 HasPiece q h =
     Encloses h q.at (thing_of q).size × (bit_and h.p_flags (needed_rights q.piece.header) ≡ needed_rights q.piece.header)
 
--- one does, unless the piece takes up no memory
+-- one does, or the piece is empty and near, unless it is of zeros of thread-local storage
 abbrev pub LiesIfThere : List ProgramHeader → Placed → Type 0
-LiesIfThere hs q = is_thread_zero q.piece ≡ false → LiesIn hs q
+LiesIfThere hs q = is_thread_zero q.piece ≡ false → HasPlace hs q
 
 -- the end of a segment's file part is an address
 abbrev pub Fits : ProgramHeader → Type 0

@@ -1,13 +1,17 @@
 //! Whether pieces are in memory, in segments with the rights that they need, and whether a segment may be both written
 //! and executed.
-ghost use Rattle.std.specs.Prelude.{◌≡◌, ◌↔◌, All, Any, IsTrue, true};
-ghost use Rattle.elf_model.specs.Image.MemoryImage.{Encloses};
+ghost use Rattle.std.specs.Prelude.{◌≡◌, ◌↔◌, ◌+◌, ◌^◌, ◌≤◌, All, Any, IsTrue, true};
+ghost use Rattle.elf_model.specs.Image.MemoryImage.{Encloses, first_address};
 ghost use Rattle.check_link.specs.Views.{piece_view, piece_views, placed_view, placed_views};
-ghost use Rattle.judge_model.specs.Placed.{LiesIn, is_both, needed_rights, writes_code};
+ghost use Rattle.judge_model.specs.Memory.{IsInReach, memory_end};
+ghost use Rattle.judge_model.specs.Placed.{HasPlace, IsEmptyInReach, LiesIn, is_both, needed_rights, writes_code};
 ghost use Rattle.place_judge.specs.Places.{HasPiece, LiesIfThere};
 
 use check_link::{Piece, Placed, is_thread_zero, load_size};
 use elf_model::{PF_R, PF_W, PF_X, ProgramHeader, SectionHeader};
+
+/// How far behind the last segment addresses may be: twice the largest page that linkers align to.
+const MARGIN: u128 = 2 * (1 << 21);
 
 /// The rights that a section needs: R, and W and X as its flags say.
 fn rights_needed(header: &SectionHeader) -> u32
@@ -44,10 +48,61 @@ fn lies_in(segments: &[ProgramHeader], q: &Placed<'_>) -> bool
     segments.iter().any(|h| has_piece(q, h))
 }
 
+/// The address of the first segment; 0 without any.
+fn first_address(segments: &[ProgramHeader]) -> u64
+    ensures { result ≡ first_address segments.now }
+{
+    match segments {
+        [] => 0,
+        [first, ..] => first.p_vaddr,
+    }
+}
+
+fn end_of(h: &ProgramHeader) -> u128
+    ensures end { result ≡ h.now.p_vaddr + h.now.p_memsz }
+    ensures low { result ≤ 2 ^ 65 }
+{
+    h.p_vaddr as u128 + h.p_memsz as u128
+}
+
+/// The greatest end of segments; 0 without any.
+fn memory_end(segments: &[ProgramHeader]) -> u128
+    ensures end { result ≡ memory_end segments.now }
+    ensures low { result ≤ 2 ^ 65 }
+{
+    let mut end = 0u128;
+    for h in segments {
+        end = end.max(end_of(h));
+    }
+    end
+}
+
+/// Whether an address is among those of segments, or not far behind them.
+fn is_in_reach(segments: &[ProgramHeader], at: u64) -> bool
+    ensures { IsTrue result ↔ IsInReach segments.now at }
+{
+    first_address(segments) <= at && at as u128 <= memory_end(segments) + MARGIN
+}
+
+fn is_empty_in_reach(segments: &[ProgramHeader], q: &Placed<'_>) -> bool
+    ensures { IsTrue result ↔ IsEmptyInReach segments.now (placed_view q.now) }
+{
+    if load_size(&q.piece) != 0 {
+        return false;
+    }
+    is_in_reach(segments, q.at)
+}
+
+fn has_place(segments: &[ProgramHeader], q: &Placed<'_>) -> bool
+    ensures { IsTrue result ↔ HasPlace segments.now (placed_view q.now) }
+{
+    lies_in(segments, q) || is_empty_in_reach(segments, q)
+}
+
 fn lies_if_there(segments: &[ProgramHeader], q: &Placed<'_>) -> bool
     ensures { IsTrue result ↔ LiesIfThere segments.now (placed_view q.now) }
 {
-    is_thread_zero(&q.piece) || lies_in(segments, q)
+    is_thread_zero(&q.piece) || has_place(segments, q)
 }
 
 fn all_lie(segments: &[ProgramHeader], placed: &[Placed<'_>]) -> bool
@@ -56,8 +111,9 @@ fn all_lie(segments: &[ProgramHeader], placed: &[Placed<'_>]) -> bool
     placed.iter().all(|q| lies_if_there(segments, q))
 }
 
-/// Whether each piece that takes up memory lies whole in a segment that has at least the rights that it needs. It looks at
-/// each segment for each piece: programs have few.
+/// Whether each piece that takes up memory lies whole in a segment that has at least the rights that it needs; an empty one may
+/// be beside all segments, from the first one's beginning to 4 MiB behind the last one. It looks at each segment for each piece:
+/// programs have few.
 pub fn are_in_memory(segments: &[ProgramHeader], placed: &[Placed<'_>]) -> bool
     ensures { IsTrue result ↔ All (LiesIfThere segments.now) (placed_views placed.now) }
 {

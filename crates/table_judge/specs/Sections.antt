@@ -7,11 +7,11 @@ use Rattle.elf_model.specs.Link.Pieces.{is_nobits}
 use Rattle.elf_model.specs.declared.records.ProgramHeader.{ProgramHeader}
 use Rattle.elf_model.specs.declared.records.SectionHeader.{SectionHeader}
 use Rattle.judge_model.specs.Placed.{needed_rights}
-use Rattle.judge_model.specs.Tables.{is_in_memory}
+use Rattle.judge_model.specs.Tables.{is_in_memory, section_count}
 
 -- the section header table lies inside the file
 abbrev pub HasTable : List ℕ → Type 0
-HasTable image = (file_header image).e_shoff + 64 * (file_header image).e_shnum ≤ length image
+HasTable image = (file_header image).e_shoff + 64 * section_count image ≤ length image
 
 -- where a section has bytes they are a segment's there
 pub record HasFilePart (h : SectionHeader) (g : ProgramHeader) : Type 0 where

@@ -1,21 +1,55 @@
 //! The section headers of an image, and whether they are true of its memory.
-ghost use Rattle.std.specs.Prelude.{◌≡◌, ◌↔◌, ◌≤◌, All, Any, IfOk, IfSome, IsSome, IsTrue, length};
+ghost use Rattle.std.specs.Prelude.{◌≡◌, ◌↔◌, ◌+◌, ◌≤◌, All, Any, IfOk, IfSome, IsSome, IsTrue, length};
+ghost use Rattle.byteview.specs.Numbers.{part};
 ghost use Rattle.elf_model.specs.Image.MemoryImage.{loads};
-ghost use Rattle.elf_model.specs.Inputs.ObjectFile.{has_no_bytes, sections};
+ghost use Rattle.elf_model.specs.Inputs.ObjectFile.{has_no_bytes};
+ghost use Rattle.elf_model.specs.Inputs.Records.{file_header, section_header};
 ghost use Rattle.judge_model.specs.Placed.{needed_rights};
-ghost use Rattle.judge_model.specs.Tables.{HasTables, IsSectionTrue, is_in_memory};
+ghost use Rattle.judge_model.specs.Tables.{HasTables, IsSectionTrue, has_first, image_sections, is_in_memory, section_count};
 ghost use Rattle.table_judge.specs.Sections.{HasFilePart, HasTable, IsMapped, IsTrueIn, LiesInFile, LiesMapped};
 
-use elf_model::{PF_R, PF_W, PF_X, ProgramHeader, SHT_NULL, SectionHeader};
+use elf_model::{FileHeader, PF_R, PF_W, PF_X, ProgramHeader, SHT_NULL, SectionHeader};
 use elf_read::Run;
 use foreign_image::ForeignImage;
 use std::alloc::{AllocError, Global};
+
+/// Whether a file has room for a section header at the offset where its header says that they begin.
+fn has_first(header: &FileHeader, file: &[u8]) -> bool
+    requires { header.now ≡ file_header file.now }
+    ensures { result ≡ has_first file.now }
+{
+    let len = file.len() as u64;
+    header.e_shoff > 0 && len >= 64 && header.e_shoff <= len - 64
+}
+
+/// `sh_size` of the section header at an offset.
+fn size_at(file: &[u8], offset: usize) -> u64
+    requires { offset + 64 ≤ length file.now }
+    ensures { result ≡ (section_header (part file.now offset 64)).sh_size }
+{
+    let run: Run<'_, SectionHeader> = Run::new(file, offset, 1);
+    run.at(0).sh_size
+}
+
+/// How many section headers an image has: e_shnum, or, where this is 0 and there are more than it can tell, sh_size of the
+/// first one (System V gABI 4, "ELF Header", e_shnum).
+fn section_count(image: &ForeignImage<'_>) -> u64
+    ensures { result ≡ section_count image.now }
+{
+    let header = image.header();
+    let file = image.image();
+    if header.e_shnum == 0 && has_first(&header, file) {
+        size_at(file, header.e_shoff as usize)
+    } else {
+        header.e_shnum as u64
+    }
+}
 
 /// Whether an image has section headers.
 pub fn has_tables(image: &ForeignImage<'_>) -> bool
     ensures { IsTrue result ↔ HasTables image.now }
 {
-    image.header().e_shnum > 0
+    section_count(image) > 0
 }
 
 /// The section headers of an image; None where they don't lie inside it.
@@ -27,20 +61,16 @@ pub fn sections_of(
     alloc: Global,
     image: &ForeignImage<'_>,
 ) -> Result<Option<Vec<SectionHeader>>, AllocError>
-    ensures sections { IfOk result (λ o. IfSome o (λ v. v.items ≡ sections image.now)) }
+    ensures sections { IfOk result (λ o. IfSome o (λ v. v.items ≡ image_sections image.now)) }
     ensures some { IfOk result (λ o. IsSome o ↔ HasTable image.now) }
 {
-    let header = image.header();
+    let count = section_count(image);
+    let start = image.header().e_shoff;
     let file = image.image();
-    let size = 64 * header.e_shnum as usize;
-    if size > file.len() || header.e_shoff as usize > file.len() - size {
+    if count > file.len() as u64 / 64 || start > file.len() as u64 - 64 * count {
         return Ok(None);
     }
-    let run: Run<'_, SectionHeader> = Run::new(
-        file,
-        header.e_shoff as usize,
-        header.e_shnum as usize,
-    );
+    let run: Run<'_, SectionHeader> = Run::new(file, start as usize, count as usize);
     let table = run.to_vec(alloc)?;
     Ok(Some(table))
 }

@@ -2,7 +2,7 @@ use Rattle.std.proofs.Common.{◌≡◌, ℕ, ◌+◌, ◌<◌, ◌≤◌, ◌^�
 use Rattle.std.specs.Prelude.{All}
 use Rattle.elf_model.proofs.Rests.{rest_at}
 use Rattle.elf_model.specs.declared.records.ProgramHeader.{ProgramHeader}
-use Rattle.judge_model.specs.Names.{memory_end}
+use Rattle.judge_model.specs.Memory.{memory_end}
 use Rattle.name_judge.specs.Clear.{IsLowEnd}
 use Rattle.name_judge.proofs.marks.end_of_memory.Goals as goal
 

@@ -1,5 +1,5 @@
 use Rattle.std.proofs.Common.{◌≡◌, ◌≤◌, ◌^◌, drop, max}
-use Rattle.judge_model.specs.Names.{memory_end}
+use Rattle.judge_model.specs.Memory.{memory_end}
 use Rattle.name_judge.proofs.marks.end_of_memory.Given as goal
 
 abbrev pub invariant-loop-h : goal.invariant-loop-h
