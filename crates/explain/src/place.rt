@@ -139,12 +139,24 @@ impl<'a> Found<'a> {
         let Some(place) = place else {
             return Ok(());
         };
-        if self.places.len() >= self.most {
-            self.more = self.more.saturating_add(1);
+        if self.is_full() {
+            self.count();
             return Ok(());
         }
         self.places.push(place)?;
         Ok(())
+    }
+
+    /// Whether as many places are kept as may be, so that one more would only be counted.
+    pub(crate) fn is_full(&self) -> bool {
+        self.places.len() >= self.most
+    }
+
+    /// Counts a place that isn't kept.
+    pub(crate) fn count(&mut self)
+        ensures { self.new.places ≡ self.old.places }
+    {
+        self.more = self.more.saturating_add(1);
     }
 
     /// The places that are told of an error, at most so many; where there is none, the error as a whole.

@@ -9,6 +9,7 @@ ghost use Rattle.relocate.specs.SymbolTables.{IsReferrer, IsValued, all_of, all_
 ghost use Rattle.explain.specs.Places.{AreSo, HoldsIn, MayBeAsked, OfLoaded, basis_of};
 
 use crate::place::{Added, EntryPlace, Found, Place, SymbolFault};
+use elf_model::Rela;
 use got_tls::Slots;
 use input_names::{RelocationPlace, begins_in, relocation_place, section_name};
 use layout::{Placement, is_lawful_if_kept};
@@ -146,6 +147,19 @@ fn kept_entries(alloc: Global, one: &LoadedObject<'_>) -> Result<Vec<EntryAt>, A
     Ok(entries)
 }
 
+/// The relocation that an entry of an object is, where it is one. It reads no name.
+fn entry_at(one: &LoadedObject<'_>, at: &EntryAt) -> Option<Rela> {
+    let header = one.object.sections().get(at.table)?;
+    if !one.is_kept_rela(at.table, &header) {
+        return None;
+    }
+    let entry = one.entries_of(at.table, &header).get(at.number)?;
+    if !is_some_kind(&entry) {
+        return None;
+    }
+    Some(entry)
+}
+
 /// The place of the kept relocation that an entry of object `k` is, where it is one.
 fn relocation_at<'a>(
     loaded: &Loaded<'a>,
@@ -189,6 +203,39 @@ fn unlawful_entry<'a>(
     }
 }
 
+/// Whether an entry isn't lawful, told without reading its names.
+fn is_unlawful(referrer: &Referrer<'_, '_, '_>, at: &EntryAt) -> bool
+    requires { IsReferrer referrer.now }
+{
+    let Some(entry) = entry_at(referrer.loaded, at) else {
+        return false;
+    };
+    let target = referrer.relocated(u64::from(at.section));
+    lawful_kind(referrer, target, &entry).is_err()
+}
+
+/// Adds an entry, where it isn't lawful: names are read only of what is kept.
+fn add_unlawful<'a>(
+    found: &mut Found<'a>,
+    loaded: &Loaded<'a>,
+    referrer: &Referrer<'_, '_, 'a>,
+    at: &EntryAt,
+) -> Added
+    requires known { IsReferrer referrer.now }
+    requires same { all_of referrer.now ≡ loaded.now.objects }
+    requires before { AreSo (OfLoaded loaded.now) found.old.places.items }
+    ensures { OnOk result (AreSo (OfLoaded loaded.now) found.new.places.items) }
+{
+    if !is_unlawful(referrer, at) {
+        return Ok(());
+    }
+    if found.is_full() {
+        found.count();
+        return Ok(());
+    }
+    found.add(unlawful_entry(loaded, referrer, at))
+}
+
 /// An entry, where its value doesn't fit.
 fn unfit_entry<'a>(loaded: &Loaded<'a>, valued: &Valued<'_, 'a>, at: &EntryAt) -> Wrong<'a>
     requires known { IsValued valued.now }
@@ -206,6 +253,44 @@ fn unfit_entry<'a>(loaded: &Loaded<'a>, valued: &Valued<'_, 'a>, at: &EntryAt) -
     let value = wanted_value(valued, target, at, kind, &entry);
     let address = at.wrapping_add(entry.r_offset);
     Some(Place::Value(reached(valued.loaded), place, value, address))
+}
+
+/// Whether an entry's value doesn't fit, told without reading its names.
+fn is_unfit(valued: &Valued<'_, '_>, at: &EntryAt) -> bool
+    requires { IsValued valued.now }
+{
+    let Some(entry) = entry_at(valued.loaded, at) else {
+        return false;
+    };
+    if Kind::of(entry.kind()).is_none() {
+        return false;
+    }
+    let target = u64::from(at.section);
+    let at = address_or_none(valued.placement, valued.number, target as usize);
+    fitting_value(valued, target, at, &entry).is_none()
+}
+
+/// Adds an entry, where its value doesn't fit: names are read only of what is kept.
+fn add_unfit<'a>(
+    found: &mut Found<'a>,
+    loaded: &Loaded<'a>,
+    valued: &Valued<'_, 'a>,
+    at: &EntryAt,
+) -> Added
+    requires known { IsValued valued.now }
+    requires same { all_valued valued.now ≡ loaded.now.objects }
+    requires placed { valued.now.placement.now ≡ basis_of loaded.now }
+    requires before { AreSo (OfLoaded loaded.now) found.old.places.items }
+    ensures { OnOk result (AreSo (OfLoaded loaded.now) found.new.places.items) }
+{
+    if !is_unfit(valued, at) {
+        return Ok(());
+    }
+    if found.is_full() {
+        found.count();
+        return Ok(());
+    }
+    found.add(unfit_entry(loaded, valued, at))
 }
 
 /// The width of a relocation's field in bytes.
@@ -226,6 +311,45 @@ fn overlap<'a>(loaded: &Loaded<'a>, k: usize, first: &EntryAt, second: &EntryAt)
         return None;
     }
     Some(Place::Overlap(reached(one), first, second))
+}
+
+/// Whether the fields of two entries share a byte, of which the second one doesn't begin before the first one, told without
+/// reading their names.
+fn share_a_byte(one: &LoadedObject<'_>, first: &EntryAt, second: &EntryAt) -> bool {
+    let (Some(entry), Some(next)) = (entry_at(one, first), entry_at(one, second)) else {
+        return false;
+    };
+    let (Some(kind), Some(next)) = (Kind::of(entry.kind()), Kind::of(next.kind())) else {
+        return false;
+    };
+    first.section == second.section
+        && next.width > 0
+        && second.offset.wrapping_sub(first.offset) < u64::from(kind.width)
+}
+
+/// Adds two entries of object `k`, where the field of the second one begins inside that of the first one: names are read only of
+/// what is kept.
+fn add_overlap<'a>(
+    found: &mut Found<'a>,
+    loaded: &Loaded<'a>,
+    k: usize,
+    first: &EntryAt,
+    second: &EntryAt,
+) -> Added
+    requires { AreSo (OfLoaded loaded.now) found.old.places.items }
+    ensures { OnOk result (AreSo (OfLoaded loaded.now) found.new.places.items) }
+{
+    let Some(one) = object_at(loaded, k) else {
+        return Ok(());
+    };
+    if !share_a_byte(one, first, second) {
+        return Ok(());
+    }
+    if found.is_full() {
+        found.count();
+        return Ok(());
+    }
+    found.add(overlap(loaded, k, first, second))
 }
 
 /// Adds what is wrong with object `k`.
@@ -253,21 +377,21 @@ fn add_object<'a>(
             let referrer = Referrer::new(alloc, resolved, mixed, k, one)?;
             let entries = kept_entries(alloc, one)?;
             for unlawful in &entries {
-                found.add(unlawful_entry(loaded, &referrer, unlawful))?;
+                add_unlawful(found, loaded, &referrer, unlawful)?;
             }
         }
         Wanted::UnfitEntries(resolved, placement, slots, pointer) => {
             let valued = Valued::new(alloc, resolved, placement, slots, pointer, k, one)?;
             let entries = kept_entries(alloc, one)?;
             for unfit in &entries {
-                found.add(unfit_entry(loaded, &valued, unfit))?;
+                add_unfit(found, loaded, &valued, unfit)?;
             }
         }
         Wanted::Overlaps => {
             let mut entries = kept_entries(alloc, one)?;
             entries.sort_by_key(|e| (e.section, e.offset))?;
             for i in 1..entries.len() {
-                found.add(overlap(loaded, k, &entries[i - 1], &entries[i]))?;
+                add_overlap(found, loaded, k, &entries[i - 1], &entries[i])?;
             }
         }
         _ => {
