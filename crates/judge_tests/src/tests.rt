@@ -1,5 +1,6 @@
 //! The tests, and what they are made of.
 mod certificates;
+mod ends_by_others;
 mod entries;
 mod fields;
 mod fillers;

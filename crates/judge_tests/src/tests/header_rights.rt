@@ -13,14 +13,15 @@ use std::alloc::{AllocError, Global};
 use std::test::Fail;
 
 /// A header beside those of `HEADERS` and `CODE`, and eight bytes of a section: its name, its flags and its address; whether the
-/// script has AT, and whether the words ask for a stack that can be executed.
+/// script has AT, and whether the words ask for a stack that can be executed, forbid it, or say nothing of it.
+#[derive(Clone, Copy)]
 struct Row {
     header: ProgramHeader,
     name: &'static [u8],
     flags: u64,
     at: u64,
     physical: bool,
-    executes: bool,
+    executes: Option<bool>,
 }
 
 /// From the code's beginning to the end of its page, which begins at 0x201000.
@@ -48,7 +49,7 @@ const DATA: Row = Row {
     flags: SHF_WRITE + SHF_ALLOC,
     at: 0x20_10f0,
     physical: false,
-    executes: false,
+    executes: None,
 };
 
 /// Sections that are written early, one that isn't written, data before the page and behind it, data in a page that PT_GNU_RELRO
@@ -91,7 +92,7 @@ static RIGHT: [Row; 9] = [
             p_flags: 7,
             ..STACK
         },
-        executes: true,
+        executes: Some(true),
         ..DATA
     },
     Row {
@@ -196,21 +197,36 @@ fn headers_beyond_the_link_are_not(rt: HostRuntime) -> Result<(), Fail> {
     Ok(())
 }
 
-/// Whether a stack that can be executed is right where an object has a section of a name and of flags.
-fn executed_with(alloc: Global, name: &'static str, flags: u64) -> Result<Option<bool>, Fail> {
+/// Whether a stack that can be executed is right where words say this of it, and an object has a section of a name and of flags.
+fn executed_with(
+    alloc: Global,
+    executes: Option<bool>,
+    name: &'static str,
+    flags: u64,
+) -> Result<Option<bool>, Fail> {
+    let row = Row {
+        header: ProgramHeader {
+            p_flags: 7,
+            ..STACK
+        },
+        executes,
+        ..DATA
+    };
     let bytes = object(alloc, &[Part(name, SHT_PROGBITS, flags, 1, 0)], &[])?;
     let files = file(alloc, bytes)?;
     let words = words(alloc)?;
     let named = loaded(alloc, &words, &files)?;
-    Ok(judged(alloc, &named.objects, &WRONG[5])?)
+    Ok(judged(alloc, &named.objects, &row)?)
 }
 
-/// A note asks for it by EXECINSTR; no other note and no other section does.
+/// A note asks for it by EXECINSTR, and an object without one does, as GNU ld and gold have it; words that forbid it come first.
 #[test]
 fn an_object_asks_for_an_executed_stack(rt: HostRuntime) -> Result<(), Fail> {
-    let asked = executed_with(rt.alloc(), ".note.GNU-stack", SHF_EXECINSTR)?;
-    let not = executed_with(rt.alloc(), ".note.GNU-stack", 0)?;
-    let other = executed_with(rt.alloc(), ".text", SHF_EXECINSTR)?;
-    assert!(rt; (asked, not, other) == (Some(true), Some(false), Some(false)));
+    let asked = executed_with(rt.alloc(), None, ".note.GNU-stack", SHF_EXECINSTR)?;
+    let not = executed_with(rt.alloc(), None, ".note.GNU-stack", 0)?;
+    let silent = executed_with(rt.alloc(), None, ".text", SHF_EXECINSTR)?;
+    let forbidden = executed_with(rt.alloc(), Some(false), ".text", SHF_EXECINSTR)?;
+    let told = (asked, not, silent, forbidden);
+    assert!(rt; told == (Some(true), Some(false), Some(true), Some(false)));
     Ok(())
 }

@@ -9,7 +9,9 @@ use crate::tests::sample_objects::{Named, Part, file, loaded, object, words};
 use byteview::View;
 use check_link::{Names, Outputs, Piece, Placed, pieces_of, thing_of_placed};
 use check_load::{Loaded, NameTable, NamedObjects};
-use elf_model::{SHF_ALLOC, SHF_EXECINSTR, SHF_WRITE, SHT_NOBITS, SHT_PROGBITS, Thing};
+use elf_model::{
+    FileHeader, ProgramHeader, SHF_ALLOC, SHF_EXECINSTR, SHF_WRITE, SHT_NOBITS, SHT_PROGBITS, Thing,
+};
 use foreign_image::ForeignImage;
 use judge_model::{NameLine, NoteLine};
 use link_fields::{Addresses, LinkParts};
@@ -18,22 +20,31 @@ use std::alloc::{AllocError, Global};
 use std::test::Fail;
 use thread_judge::are_low;
 
-/// Code from 0x2010e8 on, data behind it, then the section `set` behind a gap of four bytes, zeros behind one of eight.
-const PARTS: [Part; 4] = [
-    Part(".text", SHT_PROGBITS, SHF_ALLOC + SHF_EXECINSTR, 1, 4),
-    Part(".data", SHT_PROGBITS, SHF_ALLOC + SHF_WRITE, 1, 4),
-    Part("set", SHT_PROGBITS, SHF_ALLOC, 1, 4),
-    Part(".bss", SHT_NOBITS, SHF_ALLOC + SHF_WRITE, 1, 4),
-];
+/// The segments of an image; the sections of an object, and their addresses in it.
+pub struct Layout {
+    pub segments: &'static [ProgramHeader],
+    pub parts: &'static [Part],
+    pub places: &'static [u64],
+}
 
-const PLACES: [u64; 4] = [0x20_10e8, 0x20_10ec, 0x20_10f4, 0x20_1100];
+/// Code from 0x2010e8 on, data behind it, then the section `set` behind a gap of four bytes, zeros behind one of eight.
+static OWN: Layout = Layout {
+    segments: &[HEADERS, CODE, BLOCK],
+    parts: &[
+        Part(".text", SHT_PROGBITS, SHF_ALLOC + SHF_EXECINSTR, 1, 4),
+        Part(".data", SHT_PROGBITS, SHF_ALLOC + SHF_WRITE, 1, 4),
+        Part("set", SHT_PROGBITS, SHF_ALLOC, 1, 4),
+        Part(".bss", SHT_NOBITS, SHF_ALLOC + SHF_WRITE, 1, 4),
+    ],
+    places: &[0x20_10e8, 0x20_10ec, 0x20_10f4, 0x20_1100],
+};
 
 const GOT: Option<u64> = Some(0x20_10f8);
 
 /// Ends are exact, or up to what comes next; a start is exact, or down to what comes before; `_end` is at most two pages of 2 MiB
-/// behind memory, which ends at 0x201108; arrays that are not there are at 0 or in memory; an object defines `edata`, and no linker
-/// defines `__start_none`.
-static RIGHT: [(&str, u64); 18] = [
+/// behind memory, which ends at 0x201108; arrays that are not there are at 0, or from the first segment's beginning to as far
+/// behind the last one as `_end` may be; an object defines `edata`, and no linker defines `__start_none`.
+static RIGHT: [(&str, u64); 20] = [
     ("__executable_start", 0x20_0000),
     ("__ehdr_start", 0x20_0000),
     ("_etext", 0x20_10ec),
@@ -50,15 +61,18 @@ static RIGHT: [(&str, u64); 18] = [
     ("__init_array_start", 0),
     ("__fini_array_end", 0x20_1108),
     ("__preinit_array_end", 0x20_0000),
+    ("__init_array_start", 0x20_0fff),
+    ("__init_array_end", 0x60_1108),
     ("edata", 1),
     ("__start_none", 1),
 ];
 
-static WRONG: [(&str, u64); 17] = [
+static WRONG: [(&str, u64); 18] = [
     ("__executable_start", 0x20_10e8),
     ("__ehdr_start", 0),
     ("_etext", 0x20_10ed),
     ("etext", 0x20_10eb),
+    ("etext", 0x20_1108),
     ("_edata", 0x20_10ef),
     ("_edata", 0x20_10f5),
     ("__bss_start", 0x20_1101),
@@ -69,14 +83,18 @@ static WRONG: [(&str, u64); 17] = [
     ("__start_set", 0x20_10f5),
     ("__stop_set", 0x20_10f7),
     ("__start_set", 0),
-    ("__init_array_start", 0x20_0fff),
-    ("__fini_array_end", 0x20_1109),
+    ("__init_array_start", 0x1f_ffff),
+    ("__fini_array_end", 0x60_1109),
     ("__preinit_array_end", 1),
 ];
 
-fn places<'a>(alloc: Global, pieces: &[Piece<'a>]) -> Result<Vec<Placed<'a>>, AllocError> {
+fn places<'a>(
+    alloc: Global,
+    places: &[u64],
+    pieces: &[Piece<'a>],
+) -> Result<Vec<Placed<'a>>, AllocError> {
     let mut placed = Vec::new(alloc);
-    for (at, piece) in PLACES.iter().zip(pieces) {
+    for (at, piece) in places.iter().zip(pieces) {
         placed.push(Placed {
             at: *at,
             piece: *piece,
@@ -85,11 +103,11 @@ fn places<'a>(alloc: Global, pieces: &[Piece<'a>]) -> Result<Vec<Placed<'a>>, Al
     Ok(placed)
 }
 
-/// What takes up memory: the headers and the sections.
-fn things(alloc: Global, placed: &[Placed<'_>]) -> Result<Vec<Thing>, AllocError> {
+/// What takes up memory: the headers, from the first segment's beginning on, and the sections.
+fn things(alloc: Global, first: u64, placed: &[Placed<'_>]) -> Result<Vec<Thing>, AllocError> {
     let mut things = Vec::new(alloc);
     things.push(Thing {
-        at: 0x20_0000,
+        at: first,
         size: 232,
         align: 1,
         rights: 4,
@@ -114,11 +132,12 @@ fn are_right<'a>(
     if !are_low(placed) {
         return Ok(None);
     }
-    let things = things(alloc, placed)?;
     let outputs = Outputs::new(alloc, pieces)?;
     let addresses = Addresses::new(alloc, placed)?;
     match ForeignImage::read(alloc, View::new(image))? {
         Some(image) => {
+            let first = image.segments().first().map_or(0, |h| h.p_vaddr);
+            let things = things(alloc, first, placed)?;
             let parts = LinkParts {
                 image: &image,
                 names,
@@ -137,6 +156,7 @@ fn told<'a>(
     alloc: Global,
     objects: &[Loaded<'a>],
     table: NameTable<'a>,
+    layout: &Layout,
     image: &'a [u8],
     rows: &[NameLine],
     notes: &[NoteLine],
@@ -145,21 +165,36 @@ fn told<'a>(
 {
     let names = Names::new(alloc, objects, table)?;
     let pieces = pieces_of(alloc, objects)?;
-    let placed = places(alloc, &pieces)?;
+    let placed = places(alloc, layout.places, &pieces)?;
     are_right(alloc, &names, &pieces, &placed, image, rows, notes)
 }
 
-fn judged(alloc: Global, rows: &[NameLine], notes: &[NoteLine]) -> Result<Option<bool>, Fail> {
-    let image = image_of(alloc, &HEADER, &[HEADERS, CODE, BLOCK])?;
-    let bytes = object(alloc, &PARTS, &[Named("edata", 0x10, 2, 0)])?;
+/// Whether lines of names are right in a layout, with notes of the linker's; None where the image isn't read.
+pub fn judged_in(
+    alloc: Global,
+    layout: &Layout,
+    rows: &[NameLine],
+    notes: &[NoteLine],
+) -> Result<Option<bool>, Fail> {
+    let header = FileHeader {
+        e_phnum: u16::try_from(layout.segments.len())?,
+        ..HEADER
+    };
+    let mut image = image_of(alloc, &header, layout.segments)?;
+    image.resize(0x3000, 0)?;
+    let bytes = object(alloc, layout.parts, &[Named("edata", 0x10, 2, 0)])?;
     let files = file(alloc, bytes)?;
     let words = words(alloc)?;
     let NamedObjects { objects, names } = loaded(alloc, &words, &files)?;
-    Ok(told(alloc, &objects, names, &image, rows, notes)?)
+    Ok(told(alloc, &objects, names, layout, &image, rows, notes)?)
+}
+
+fn judged(alloc: Global, rows: &[NameLine], notes: &[NoteLine]) -> Result<Option<bool>, Fail> {
+    judged_in(alloc, &OWN, rows, notes)
 }
 
 /// Lines of names.
-fn lines(alloc: Global, rows: &[(&str, u64)]) -> Result<Vec<NameLine>, AllocError> {
+pub fn lines(alloc: Global, rows: &[(&str, u64)]) -> Result<Vec<NameLine>, AllocError> {
     let mut lines = Vec::new(alloc);
     for (name, value) in rows {
         lines.push(NameLine {

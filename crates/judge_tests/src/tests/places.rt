@@ -172,6 +172,27 @@ fn is_row(alloc: Global, row: &Row) -> Result<bool, AllocError> {
     Ok(begins(alloc, &placed)? == Some(row.begins))
 }
 
+/// Whether an empty section is in its place at an address, where memory is from 0x200000 to 0x201108. GNU ld and LLD put empty
+/// sections at the next page.
+fn is_empty_at(at: u64) -> bool {
+    let mut piece = PIECES[0];
+    piece.header.sh_size = 0;
+    are_in_memory(&[HEADERS, CODE], &[Placed { at, piece }])
+}
+
+#[test]
+fn empty_sections_may_be_beside_segments(rt: HostRuntime) -> Result<(), Fail> {
+    let told = (
+        is_empty_at(0x20_2108),
+        is_empty_at(0x20_0800),
+        is_empty_at(0x60_1108),
+        is_empty_at(0x60_1110),
+        is_empty_at(0x1f_fff8),
+    );
+    assert!(rt; told == (true, true, true, false, false));
+    Ok(())
+}
+
 #[test]
 fn sections_are_judged_by_where_they_are(rt: HostRuntime) -> Result<(), Fail> {
     let mut all = true;

@@ -18,6 +18,12 @@ const TABLED: FileHeader = FileHeader {
     ..HEADER
 };
 
+/// One that leaves the number of section headers to the first of them.
+const COUNTED: FileHeader = FileHeader {
+    e_shnum: 0,
+    ..TABLED
+};
+
 /// The sixteen bytes of code.
 const TEXT: SectionHeader = SectionHeader {
     sh_type: SHT_PROGBITS,
@@ -85,14 +91,20 @@ static WRONG: [SectionHeader; 6] = [
     },
 ];
 
-/// An image with a null section header and this one.
+/// An image with a null section header, of a size, and this one.
 fn image_with(
     alloc: Global,
     header: &FileHeader,
+    count: u64,
     section: &SectionHeader,
 ) -> Result<Vec<u8>, AllocError> {
     let mut image = image_of(alloc, header, &[HEADERS, CODE, BLOCK])?;
     let mut record = [0; 64];
+    let first = SectionHeader {
+        sh_size: count,
+        ..SectionHeader::NULL
+    };
+    first.write_to(&mut record);
     image.extend_from_slice(&record)?;
     section.write_to(&mut record);
     image.extend_from_slice(&record)?;
@@ -105,7 +117,17 @@ fn judged(
     header: &FileHeader,
     section: &SectionHeader,
 ) -> Result<Option<bool>, AllocError> {
-    let bytes = image_with(alloc, header, section)?;
+    judged_of(alloc, header, 0, section)
+}
+
+/// The same where the first header has a size.
+fn judged_of(
+    alloc: Global,
+    header: &FileHeader,
+    count: u64,
+    section: &SectionHeader,
+) -> Result<Option<bool>, AllocError> {
+    let bytes = image_with(alloc, header, count, section)?;
     let Some(image) = ForeignImage::read(alloc, View::new(&bytes))? else {
         return Ok(None);
     };
@@ -138,6 +160,20 @@ fn other_sections_are_not(rt: HostRuntime) -> Result<(), Fail> {
     Ok(())
 }
 
+/// Where e_shnum is 0 the first header's size is their number (System V gABI 4, e_shnum): two, one of which is true and one isn't;
+/// three, of which the last is behind the file; and more than there can be.
+#[test]
+fn first_headers_tell_how_many_there_are(rt: HostRuntime) -> Result<(), Fail> {
+    let told = (
+        judged_of(rt.alloc(), &COUNTED, 2, &TEXT)?,
+        judged_of(rt.alloc(), &COUNTED, 2, &WRONG[0])?,
+        judged_of(rt.alloc(), &COUNTED, 3, &TEXT)?,
+        judged_of(rt.alloc(), &COUNTED, u64::MAX, &TEXT)?,
+    );
+    assert!(rt; told == (Some(true), Some(false), None, None));
+    Ok(())
+}
+
 /// Headers behind the file's end, and none at all.
 #[test]
 fn tables_outside_the_file_are_not_read(rt: HostRuntime) -> Result<(), Fail> {
@@ -145,12 +181,8 @@ fn tables_outside_the_file_are_not_read(rt: HostRuntime) -> Result<(), Fail> {
         e_shoff: 249,
         ..TABLED
     };
-    let none = FileHeader {
-        e_shnum: 0,
-        ..TABLED
-    };
     let first = judged(rt.alloc(), &behind, &TEXT)?;
-    let second = judged(rt.alloc(), &none, &TEXT)?;
+    let second = judged(rt.alloc(), &COUNTED, &TEXT)?;
     assert!(rt; (first, second) == (None, None));
     Ok(())
 }

@@ -16,7 +16,7 @@ struct Asked {
     collects: bool,
     takes_first: bool,
     writes_code: bool,
-    executes_stack: bool,
+    executes_stack: Option<bool>,
     features: u64,
     segment: Option<u64>,
     strips_local: bool,
@@ -31,7 +31,7 @@ const PLAIN: Asked = Asked {
     collects: false,
     takes_first: false,
     writes_code: false,
-    executes_stack: false,
+    executes_stack: None,
     features: 0,
     segment: None,
     strips_local: false,
@@ -59,7 +59,7 @@ static ROWS: [(&str, Option<Asked>); 18] = [
             collects: true,
             takes_first: true,
             writes_code: true,
-            executes_stack: true,
+            executes_stack: Some(true),
             strips_local: true,
             undefined: &["first", "second"],
             ..PLAIN
@@ -69,6 +69,7 @@ static ROWS: [(&str, Option<Asked>); 18] = [
     (
         "--gc-sections --no-gc-sections -z execstack -z noexecstack -z ibt -z shstk -z lam-u57 a.o b.o",
         Some(Asked {
+            executes_stack: Some(false),
             features: 11,
             ..PLAIN
         }),
