@@ -242,8 +242,8 @@ fn is_whole(found: &Found<'_>) -> bool {
     }
 }
 
-/// The lines that explain where the check of a link fails by a clause: the places, or where there are none, why the inputs
-/// are refused.
+/// The lines that explain where the check of a link fails by a clause: why the inputs are refused, where by that no place was
+/// found, or the map has no lines; and the places.
 fn link_failures(
     alloc: Global,
     seed: NameSeed,
@@ -253,11 +253,12 @@ fn link_failures(
     clause: Clause,
 ) -> io::Result<Vec<u8>> {
     let found = explain_check(alloc, link, MOST)?;
+    let whole = is_whole(&found);
     let mut text = Vec::new(alloc);
-    if is_whole(&found) {
+    if whole || clause == Clause::C3 {
         text = input_reasons(alloc, seed, link.files, words, clause)?;
     }
-    if text.is_empty() {
+    if !whole || text.is_empty() {
         write_failures(alloc, &mut text, link, map, &found)?;
     }
     Ok(text)

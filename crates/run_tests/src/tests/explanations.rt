@@ -1,11 +1,11 @@
 //! What `ld-why` prints of a check, on a system in memory.
 use crate::tests::machine::{Disk, Kind, Machine, NewFiles, SOUND, StoredFile};
 use crate::tests::runs::{Program, run_program_line};
-use elf_model::InputFile;
+use elf_model::{InputFile, SHF_ALLOC};
 use link_samples::links::{Change, File, changed};
-use link_samples::objects::{NamedSymbol, Relocation, relocatable};
+use link_samples::objects::{NamedSymbol, Relocation, Section, relocatable};
 use link_samples::one_object::words_of;
-use link_samples::parts::{COMMON, F, NO_F, R_64, START, TEXT};
+use link_samples::parts::{COMMON, DATA, F, NO_F, R_64, START, TEXT};
 use link_samples::vectors::OBJECT;
 use std::alloc::Global;
 use std::io;
@@ -230,6 +230,28 @@ fn what_is_wrong_with_the_inputs_of_a_check_is_told(rt: HostRuntime) -> Result<(
     assert_eq!(rt;
         printed.as_str(),
         "no C2\nthin.a: NotArchive (2): a thin archive, which has no members of its own: ar makes one that has without T\n\nerr: \nstatus 1"
+    );
+    Ok(())
+}
+
+/// A section with SHF_GNU_RETAIN.
+const RETAINED: Section<'static> = Section {
+    name: ".keep",
+    sh_flags: SHF_ALLOC | 0x20_0000,
+    ..DATA
+};
+
+#[test]
+fn what_is_wrong_with_the_inputs_is_told_before_what_the_map_lacks(
+    rt: HostRuntime,
+) -> Result<(), Fail> {
+    let alloc = rt.alloc();
+    let object = relocatable(alloc, &[TEXT, RETAINED], &[START], &[])?;
+    let files = [StoredFile::sound("a.o", &object)];
+    let printed = checked(alloc, PLAIN, &Change::Nothing, &files, "-s a.o")?;
+    assert_eq!(rt;
+        printed.as_str(),
+        "no C3\na.o: section 2 .keep: type PROGBITS, flags ALLOC GNU_RETAIN: not linked, as of __attribute__((retain)) or Rust's #[used]\nthe map lacks: place 0000000000000000 8 0 2 .keep, at any address\n\nerr: \nstatus 1"
     );
     Ok(())
 }
