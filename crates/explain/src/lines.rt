@@ -2,6 +2,7 @@
 
 use crate::hint_text::write_hint;
 use crate::hints::undefined_name;
+use crate::note_text::write_note;
 use crate::place::{Found, Place};
 use crate::text::{Inputs, PlaceText};
 use ar_index::Archive;
@@ -65,7 +66,7 @@ fn write_passed_archive<W: Write>(out: &mut W, inputs: Inputs<'_>, name: &[u8]) 
     Ok(())
 }
 
-/// Writes place `i`. Behind the first reference to an undefined name it says which archive has the name and which defined name is
+/// Writes a place, and what is told beside it. Behind the first reference to an undefined name it says which archive has the name and which defined name is
 /// like it, behind the third one how many more there are.
 fn write_line<W: Write>(
     out: &mut W,
@@ -75,6 +76,7 @@ fn write_line<W: Write>(
     before: usize,
 ) -> io::Result<()> {
     write!(out, "{}", PlaceText { inputs, place })?;
+    write_note(out, inputs, &found.notes, place)?;
     if let Some(name) = undefined_name(place) {
         if before == 0 {
             write_passed_archive(out, inputs, name)?;

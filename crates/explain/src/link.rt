@@ -5,12 +5,14 @@ ghost use Rattle.elf_model.specs.Inputs.Command.{IsBase};
 ghost use Rattle.elf_model.specs.Inputs.Files.{files_of, words_of};
 ghost use Rattle.elf_model.specs.Link.Pieces.{AreLawfulKinds};
 ghost use Rattle.explain.specs.Hints.{IsHintOf};
+ghost use Rattle.explain.specs.Notes.{IsNote, IsNoteOf};
 ghost use Rattle.explain.specs.Places.{AreSo, Ground, Holds, OfLoaded, Says};
 
 use crate::duplicates::add_other_duplicates;
 use crate::files::add_unloaded;
 use crate::hints::{Hint, hints_of};
-use crate::place::{Added, Found, Place};
+use crate::notes::{Note, notes_of};
+use crate::place::{Found, Place};
 use crate::wanted::{Wanted, add_wanted};
 use command::{Plan, read_words, refused_word};
 use elf_model::{CmdFault, InputFile, LinkError, NameSeed};
@@ -22,76 +24,112 @@ use search::{Loaded, load_seeded};
 use std::alloc::{AllocError, Global};
 use symbols::IndexedTable;
 
+/// What is told beside places.
+#[derive(Drop)]
+struct Beside<'a> {
+    hints: Vec<Hint<'a>>,
+    notes: Vec<Note<'a>>,
+}
+
+impl Beside<'_> {
+    /// Nothing.
+    fn nothing(alloc: Global) -> Self
+        ensures hints { length result.hints.items ≡ 0 }
+        ensures notes { length result.notes.items ≡ 0 }
+    {
+        Beside {
+            hints: Vec::new(alloc),
+            notes: Vec::new(alloc),
+        }
+    }
+}
+
 /// Adds why what is loaded, whose names are resolved, isn't linked: by its references, its entry, its layout, or its values.
-fn add_unlinked<'a>(found: &mut Found<'a>, loaded: &Loaded<'a>, resolved: &Resolved<'a>) -> Added
+/// Answers what is told beside.
+fn add_unlinked<'a>(
+    found: &mut Found<'a>,
+    loaded: &Loaded<'a>,
+    resolved: &Resolved<'a>,
+) -> Result<Vec<Note<'a>>, AllocError>
     requires resolved { resolved.now ≡ loaded.now.objects }
     requires base { IsBase loaded.now.plan.base }
     requires kinds { AreLawfulKinds loaded.now.objects }
     requires before { AreSo (OfLoaded loaded.now) found.old.places.items }
-    ensures { OnOk result (AreSo (OfLoaded loaded.now) found.new.places.items) }
+    ensures places { OnOk result (AreSo (OfLoaded loaded.now) found.new.places.items) }
+    ensures notes { IfOk result (λ ns. All (IsNote loaded.now) ns.items) }
 {
     let alloc = found.alloc;
     match references(alloc, loaded, resolved) {
         Ok(_) => {}
         Err(RelocFault::Memory) => return Err(AllocError),
         Err(RelocFault::OverlappingFields) => {
-            return add_wanted(found, Wanted::Overlaps, loaded);
+            add_wanted(found, Wanted::Overlaps, loaded)?;
+            return Ok(Vec::new(alloc));
         }
         Err(_) => {
             let mixed = mixed_names(alloc, resolved)?;
-            return add_wanted(found, Wanted::UnlawfulEntries(resolved, &mixed), loaded);
+            add_wanted(found, Wanted::UnlawfulEntries(resolved, &mixed), loaded)?;
+            return notes_of(alloc, loaded, resolved, &found.places);
         }
     }
     let entry = loaded.plan().entry;
     if resolved.entry(entry.as_bytes()).is_none() {
-        return found.add(Some(Place::Entry(entry)));
+        found.add(Some(Place::Entry(entry)))?;
+        return Ok(Vec::new(alloc));
     }
     let slots = slots(alloc, loaded, resolved)?;
     match place(alloc, loaded, resolved, slots.got(), loaded.plan().base) {
         Ok(placement) => {
             let pointer = pointer_of(&placement);
             let wanted = Wanted::UnfitEntries(resolved, &placement, &slots, pointer);
-            add_wanted(found, wanted, loaded)
+            add_wanted(found, wanted, loaded)?;
         }
-        Err(LayoutFault::Memory) => Err(AllocError),
-        Err(_) => add_wanted(found, Wanted::LargeSections, loaded),
+        Err(LayoutFault::Memory) => return Err(AllocError),
+        Err(_) => add_wanted(found, Wanted::LargeSections, loaded)?,
     }
+    Ok(Vec::new(alloc))
 }
 
-/// Adds why what is loaded isn't linked.
-fn add_loaded<'a>(found: &mut Found<'a>, loaded: &Loaded<'a>) -> Added
+/// Adds why what is loaded isn't linked. Answers what is told beside.
+fn add_loaded<'a>(found: &mut Found<'a>, loaded: &Loaded<'a>) -> Result<Vec<Note<'a>>, AllocError>
     requires base { IsBase loaded.now.plan.base }
     requires before { AreSo (OfLoaded loaded.now) found.old.places.items }
-    ensures { OnOk result (AreSo (OfLoaded loaded.now) found.new.places.items) }
+    ensures places { OnOk result (AreSo (OfLoaded loaded.now) found.new.places.items) }
+    ensures notes { IfOk result (λ ns. All (IsNote loaded.now) ns.items) }
 {
+    let alloc = found.alloc;
     let Ok(()) = kinds(loaded) else {
-        return add_wanted(found, Wanted::UnlawfulSections, loaded);
+        add_wanted(found, Wanted::UnlawfulSections, loaded)?;
+        return Ok(Vec::new(alloc));
     };
-    let table = IndexedTable::with_hasher(found.alloc, loaded.name_seed());
-    match resolve_in(found.alloc, loaded, table) {
-        Ok(resolved) => add_unlinked(found, loaded, &resolved),
-        Err(ResolveFault::Memory) => Err(AllocError),
-        Err(ResolveFault::BadCommon) => add_wanted(found, Wanted::UnsoundCommons, loaded),
-        Err(ResolveFault::BadSymbol) => add_wanted(found, Wanted::UnsoundSymbols, loaded),
+    let table = IndexedTable::with_hasher(alloc, loaded.name_seed());
+    match resolve_in(alloc, loaded, table) {
+        Ok(resolved) => return add_unlinked(found, loaded, &resolved),
+        Err(ResolveFault::Memory) => return Err(AllocError),
+        Err(ResolveFault::BadCommon) => add_wanted(found, Wanted::UnsoundCommons, loaded)?,
+        Err(ResolveFault::BadSymbol) => add_wanted(found, Wanted::UnsoundSymbols, loaded)?,
         Err(ResolveFault::Duplicate(name)) => {
             add_wanted(found, Wanted::Definitions(&name), loaded)?;
-            add_other_duplicates(found, loaded, &name)
+            add_other_duplicates(found, loaded, &name)?;
         }
     }
+    Ok(Vec::new(alloc))
 }
 
-/// Adds why the link of files that words name is refused, and answers hints for the names that are asked for and not defined.
+/// Adds why the link of files that words name is refused, and answers what is told beside.
 fn add_reasons<'a>(
     found: &mut Found<'a>,
     files: &'a [InputFile],
     words: &'a [String],
     seed: NameSeed,
-) -> Result<Vec<Hint<'a>>, AllocError>
+) -> Result<Beside<'a>, AllocError>
     requires { (g : Ground) → AreSo g found.old.places.items }
     ensures places { OnOk result (All
         (Says (files_of files.now) (words_of words.now)) found.new.places.items) }
-    ensures hints { IfOk result (λ hs. All
-        (IsHintOf (files_of files.entry.now) (words_of words.entry.now)) hs.items) }
+    ensures hints { IfOk result (λ b. All
+        (IsHintOf (files_of files.entry.now) (words_of words.entry.now)) b.hints.items) }
+    ensures notes { IfOk result (λ b. All
+        (IsNoteOf (files_of files.entry.now) (words_of words.entry.now)) b.notes.items) }
 {
     let alloc = found.alloc;
     let plan = match read_words(alloc, words) {
@@ -100,25 +138,27 @@ fn add_reasons<'a>(
         Err(fault) => {
             let number = refused_word(alloc, words)?;
             found.add(Some(Place::Word(number, fault)))?;
-            return Ok(Vec::new(alloc));
+            return Ok(Beside::nothing(alloc));
         }
     };
     match load_seeded(alloc, &plan, files, seed) {
         Ok(loaded) => {
-            add_loaded(found, &loaded)?;
-            hints_of(alloc, &loaded, &found.places)
+            let notes = add_loaded(found, &loaded)?;
+            let hints = hints_of(alloc, &loaded, &found.places)?;
+            Ok(Beside { hints, notes })
         }
         Err(fault) => {
             add_unloaded(found, files, &plan, fault)?;
-            Ok(Vec::new(alloc))
+            Ok(Beside::nothing(alloc))
         }
     }
 }
 
 /// Why the link of files that words name is refused with an error: the first places at which something is wrong, at most so
 /// many, and how many more there are. They are of the phase of the error, each with the error's cause or that of an error of the
-/// same phase; where none is found, the error as a whole. Hints are definitions whose names are like those that are not defined. Names are found by hash, from a seed: who picks the names can make them
-/// collide only where the seed is known.
+/// same phase; where none is found, the error as a whole. Hints are definitions whose names are like those that are not defined,
+/// notes what is told beside relocations. Names are found by hash, from a seed: who picks the names can make them collide only
+/// where the seed is known.
 ///
 /// # Errors
 ///
@@ -136,6 +176,8 @@ pub fn explain<'a>(
         All (Holds (files_of files.entry.now) (words_of words.entry.now)) f.places.items) }
     ensures hints { IfOk result (λ f. All
         (IsHintOf (files_of files.entry.now) (words_of words.entry.now)) f.hints.items) }
+    ensures notes { IfOk result (λ f. All
+        (IsNoteOf (files_of files.entry.now) (words_of words.entry.now)) f.notes.items) }
     ensures few { IfOk result (λ f. length f.places.items ≤ most) }
     ensures some { IfOk result (λ f. 0 < most → 0 < length f.places.items) }
 {
@@ -143,9 +185,10 @@ pub fn explain<'a>(
         LinkError::Memory => Err(AllocError),
         _ => {
             let mut found = Found::new(alloc, most);
-            let hints = add_reasons(&mut found, files, words, seed)?;
+            let Beside { hints, notes } = add_reasons(&mut found, files, words, seed)?;
             let mut told = found.told(error, most)?;
             told.hints = hints;
+            told.notes = notes;
             Ok(told)
         }
     }

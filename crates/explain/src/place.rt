@@ -6,6 +6,7 @@ ghost use Rattle.elf_model.specs.declared.faults.LinkError.TheVariants as link_e
 ghost use Rattle.explain.specs.Places.{AreSo, Ground, Holds, IsOf, IsSo, Says};
 
 use crate::hints::Hint;
+use crate::notes::Note;
 use bad_parts::BadPart;
 use command::Source;
 use elf_model::{ArFault, CmdFault, GroupFault, LinkError, ObjFault, SectionHeader, Symbol};
@@ -114,6 +115,8 @@ pub struct Found<'a> {
     pub more: u64,
     /// Definitions whose names are like those that places ask for.
     pub hints: Vec<Hint<'a>>,
+    /// What is told beside places.
+    pub notes: Vec<Note<'a>>,
     most: usize,
 }
 
@@ -127,6 +130,7 @@ impl<'a> Found<'a> {
             places: Vec::new(alloc),
             more: 0,
             hints: Vec::new(alloc),
+            notes: Vec::new(alloc),
             most,
         }
     }

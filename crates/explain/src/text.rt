@@ -130,9 +130,9 @@ pub struct Inputs<'i> {
 /// An object of inputs, which reads as the path of its file and the member that it is; and the number of its item, where more
 /// than one word names the file.
 #[derive(Clone, Copy)]
-struct At<'i, 'p, 'a> {
-    inputs: Inputs<'i>,
-    object: &'p Reached<'a>,
+pub(crate) struct At<'i, 'p, 'a> {
+    pub(crate) inputs: Inputs<'i>,
+    pub(crate) object: &'p Reached<'a>,
 }
 
 impl fmt::Display for At<'_, '_, '_> {
@@ -155,7 +155,7 @@ impl<'a> At<'_, '_, 'a> {
     }
 
     /// The section in which symbol `j` is defined, where it is in one.
-    fn section_of(self, j: usize) -> Option<&'a [u8]> {
+    pub(crate) fn section_of(self, j: usize) -> Option<&'a [u8]> {
         let object = self.read()?;
         let symbol = object.symbol(j);
         if symbol.is_undefined() {

@@ -2,5 +2,6 @@
 mod bad_objects;
 mod hints;
 mod lines;
+mod notes;
 mod refused_links;
 mod source_lines;

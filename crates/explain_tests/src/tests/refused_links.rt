@@ -468,7 +468,8 @@ const RELOCATIONS: [Row; 17] = [
         "a.o",
         9,
         "a.o: foo+0x0: __stop_foo is a bound of an output name of several output sections (relocation 0 of section 6, \
-         R_X86_64_64, to symbol 2)\n",
+         R_X86_64_64, to symbol 2); a.o has section 2 foo: type NOBITS, flags WRITE ALLOC; a.o has section 3 foo: type \
+         PROGBITS, flags WRITE ALLOC\n",
     ),
     (
         &[File::Object(

@@ -8,6 +8,7 @@ returns-in_ok-told-in_default c =
     record {
       holds = told.holds (files_of c.args.files.now) (words_of c.args.words.now) c.in_default.not-Memory c.requires added.places;
       hints = added.hints;
+      notes = added.notes;
       few = told.few;
       some = told.some;
     }
