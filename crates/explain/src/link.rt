@@ -185,10 +185,10 @@ pub fn explain<'a>(
         LinkError::Memory => Err(AllocError),
         _ => {
             let mut found = Found::new(alloc, most);
-            let Beside { hints, notes } = add_reasons(&mut found, files, words, seed)?;
+            let beside = add_reasons(&mut found, files, words, seed)?;
             let mut told = found.told(error, most)?;
-            told.hints = hints;
-            told.notes = notes;
+            told.hints = beside.hints;
+            told.notes = beside.notes;
             Ok(told)
         }
     }
