@@ -10,3 +10,11 @@ returns-in-Err c =
     let refused : command_of (words_of c.args.words.now) ≡ Err c.in-Err.fault = search rules in
     let so = c.add.ensures words (c.requires words) (record { at = c.in_ok-number-in-Err.ensures c.in-Err.fault refused; refused = refused }) in
     search (rules, so)
+
+pub returns-in-Ok-load_seeded-clause-hints : goal.returns-in-Ok-load_seeded-clause-hints
+returns-in-Ok-load_seeded-clause-hints c k d within =
+    let read = c.in-Ok-load_seeded.ensures in (
+      c.in-Ok-load_seeded.loaded,
+      record { plan = _; words_are = c.in-Ok.ensures.plan; plan_is = read.plan; loads = read.loaded },
+      c.in_ok-hints-in-Ok-load_seeded.ensures k d within,
+    )

@@ -17,5 +17,7 @@ add_wanted-requires-in-Ok-place-clause-asked c =
       pointer_is = c.pointer_of-pointer.ensures;
     }
 
-pub returns-then-is_none : goal.returns-then-is_none
-returns-then-is_none c = c.add.ensures (OfLoaded c.args.loaded.now) c.requires.before (search rules)
+pub returns-then-is_none-clause-places : goal.returns-then-is_none-clause-places
+returns-then-is_none-clause-places c =
+    let so = c.add.ensures (OfLoaded c.args.loaded.now) c.requires.before (search rules) in
+    search (rules, so)
