@@ -56,7 +56,8 @@ fn write_link<'a, 'b, R: Files + AllocGlobal + RandomSource, E: Write>(
     err: &mut E,
 ) -> Result<(), Failure<'a>>
     requires { linkage.now.plan.strip ≡ true }
-    ensures { IfErr result (λ f. failure_status f ≢ 2) }
+    ensures status { IfErr result (λ f. failure_status f ≢ 2) }
+    ensures quiet { IsErr result → err.new ≡ err.old }
 {
     let alloc = rt.alloc();
     let names = definitions(alloc, &*linkage)?;
@@ -88,6 +89,7 @@ pub fn link_files<'a, R: Files + AllocGlobal + RandomSource, E: Write>(
     ensures right { OnOk result (LinksRight (files_of files.now) (words_of words.now)) }
     ensures words_alone { IfErr result (λ f. failure_status f ≡ 2
         → IsErr (command_of (words_of words.now))) }
+    ensures quiet { IsErr result → err.new ≡ err.old }
 {
     let linkage = match prepare_seeded(rt.alloc(), files, words, seed) {
         Ok(linkage) => linkage,

@@ -3,7 +3,7 @@ ghost use Rattle.std.specs.Prelude.{◌≡◌, ◌⊎◌, ◌≤◌, ◌∷◌, 
 ghost use Rattle.elf_model.specs.Inputs.Command as command;
 ghost use Rattle.elf_model.specs.Inputs.Command.{command_of};
 ghost use Rattle.elf_model.specs.Inputs.Files.{File, words_of};
-ghost use Rattle.ld_main.specs.Program.{Asks, HasRightLink, failure_status};
+ghost use Rattle.ld_main.specs.Program.{Asks, HasRightLink, TellsFailure, failure_status};
 ghost use Rattle.debug_main.specs.Verdicts.{Prints, SaysSome, answer_status};
 ghost use Rattle.debug_main.specs.Words.{IsStripped, plain_words, stands_alone};
 
@@ -48,6 +48,7 @@ fn run<'a, R: Files + AllocGlobal + RandomSource, E: Write>(
     ensures words_alone { IfErr result (λ f. failure_status f ≡ 2
         → IsErr (command_of (words_of words.entry.now))) }
     ensures mode { IfOk result (λ o. Asks (is_some o) (words_of words.entry.now)) }
+    ensures refused_is_quiet { IsErr result → err.new ≡ err.old }
     ensures check_is_quiet { (p : command.Plan) →
         command_of (words_of words.entry.now) ≡ Ok p → p.check ≡ true → err.new ≡ err.old }
     ensures fault { (p : command.Plan) →
@@ -93,6 +94,11 @@ fn answer<R: Files + AllocGlobal + RandomSource, O: Write, E: Write>(
     ensures check_prints_no_fault { (p : command.Plan) →
         command_of (words_of words.now) ≡ Ok p → p.check ≡ true → result.0 ≤ 1
         → err.new ≡ err.old }
+    ensures line { 2 ≤ result.0
+        → OnOk result.1 (TellsFailure result.0 (E.contents err.old) (E.contents err.new)) }
+    ensures link_line { (p : command.Plan) →
+        command_of (words_of words.now) ≡ Ok p → p.check ≡ false → 1 ≤ result.0
+        → OnOk result.1 (TellsFailure result.0 (E.contents err.old) (E.contents err.new)) }
 {
     match run(rt, words, wanted, err) {
         Ok(Some(verdict)) => (verdict.status(), verdict.print(out)),

@@ -15,4 +15,4 @@ other {X} Q r f is differs =
 
 pub returns-in_err-write_link-clause-words_alone : goal.returns-in_err-write_link-clause-words_alone
 returns-in_err-write_link-clause-words_alone g c =
-    other _ c.from_residual.result c.in_err-write_link.field-0.0 (err_from_is_err_and c.from_residual.result c.from_residual.ensures.1) c.in_err-write_link.ensures
+    other _ c.from_residual.result c.in_err-write_link.field-0.0 (err_from_is_err_and c.from_residual.result c.from_residual.ensures.1) c.in_err-write_link.ensures.status
