@@ -233,16 +233,21 @@ pub fn relocatable(
     draft.finish()
 }
 
-/// The entries of a symbol table, of which entry 0 is all zero; their names go to the end of `names`.
+/// The entries of a symbol table, of which entry 0 is all zero; their names go to the end of `names`, one after another of the
+/// same name once.
 fn symbol_table(
     alloc: Global,
     symbols: &[NamedSymbol<'_>],
     names: &mut Vec<u8>,
 ) -> Result<Vec<u8>, Fail> {
     let mut table = Vec::from_slice(alloc, &[0; 24])?;
+    let mut last = ("", 0);
     for symbol in symbols {
+        if symbol.name != last.0 {
+            last = (symbol.name, add_name(names, symbol.name)?);
+        }
         let entry = Symbol {
-            st_name: add_name(names, symbol.name)?,
+            st_name: last.1,
             st_info: symbol.st_info,
             st_other: 0,
             st_shndx: symbol.st_shndx,

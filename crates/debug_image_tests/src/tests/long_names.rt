@@ -2,7 +2,7 @@
 use crate::tests::found::{find, symbol_named};
 use crate::tests::tables::debuggable_of;
 use debug_image::long_named;
-use elf_model::{InputFile, SYM_SIZE};
+use elf_model::InputFile;
 use ld_main::prepare;
 use link_samples::objects::{NamedSymbol, object};
 use link_samples::one_object::words_of;
@@ -15,44 +15,26 @@ use std::test::Fail;
 const LONG: &str =
     "lllllllllllllllllllllllllllllllllllllllllllllllllllllllllllllllllllllllllllllllllllllllllllllllllllll";
 
-/// A LOCAL function in section 1, and one without a name.
+/// A LOCAL function of that name in section 1, and one of another.
 const NAMED: NamedSymbol<'static> = NamedSymbol {
     name: LONG,
     st_info: 2,
     ..START
 };
 
-const NAMELESS: NamedSymbol<'static> = NamedSymbol { name: "", ..NAMED };
-
 const HERE: NamedSymbol<'static> = NamedSymbol {
     name: "here",
     ..NAMED
 };
 
-/// Gives the symbols from number 2 on to one the name of symbol 1.
-fn share_name(object: &mut Vec<u8>, most: usize) -> Result<(), Fail> {
-    let first = (find(object, ".symtab")?.sh_offset as usize).wrapping_add(SYM_SIZE);
-    for j in 1..most {
-        for k in 0..4 {
-            let byte = *object.get(first.wrapping_add(k)).ok_or("a name")?;
-            let at = first.wrapping_add(SYM_SIZE.wrapping_mul(j)).wrapping_add(k);
-            *object.get_mut(at).ok_or("a symbol")? = byte;
-        }
-    }
-    Ok(())
-}
-
 /// An object with so many LOCAL functions of the long name, and one that others see.
 fn long_object(alloc: Global, count: usize) -> Result<Vec<u8>, Fail> {
     let mut symbols = Vec::new(alloc);
-    symbols.push(NAMED)?;
-    for _ in 1..count {
-        symbols.push(NAMELESS)?;
+    for _ in 0..count {
+        symbols.push(NAMED)?;
     }
     symbols.push(F)?;
-    let mut bytes = object(alloc, &[TEXT], &symbols)?;
-    share_name(&mut bytes, count)?;
-    Ok(bytes)
+    object(alloc, &[TEXT], &symbols)
 }
 
 /// Two files: an object with one LOCAL function, and such an object.

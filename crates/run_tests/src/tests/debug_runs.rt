@@ -45,8 +45,23 @@ const LOCAL: NamedSymbol<'static> = NamedSymbol {
     ..START
 };
 
-/// Files of the system: two objects with debug data, one with compressed data, one with data that no image takes, and two whose
-/// debug data have relocations of an unknown type, the second one in two sections.
+/// A LOCAL function with a name of 200 bytes.
+const LONG: NamedSymbol<'static> = NamedSymbol {
+    name: "hidden_hidden_hidden_hidden_hidden_hidden_hidden_hidden_hidden_hidden_hidden_hidden_hidden_hidden_hidden_hidden_hidden_hidden_hidden_hidden_hidden_hidden_hidden_hidden_hidden_hidden_hidden_hidden_hidden",
+    ..LOCAL
+};
+
+/// Twenty of them: their names come to more bytes than an object has in which they are one text.
+const LONGS: [NamedSymbol<'static>; 21] = [
+    LONG, LONG, LONG, LONG, LONG, LONG, LONG, LONG, LONG, LONG, LONG, LONG, LONG, LONG, LONG, LONG,
+    LONG, LONG, LONG, LONG, F,
+];
+
+/// What an object begins with, and no more: it has no header of 64 bytes (System V gABI 4, "ELF Header").
+static CUT: [u8; 4] = [0x7f, 0x45, 0x4c, 0x46];
+
+/// Files of the system: two objects with debug data, one with compressed data, one with data that no image takes, two whose
+/// debug data have relocations of an unknown type, the second one in two sections, and one with LOCAL symbols of one long name.
 fn outcome(alloc: Global, new_files: NewFiles, line: &str) -> Result<Outcome, Fail> {
     let unknown = [Relocation(2, 0, 200, 2, 0)];
     let two_unknown = [Relocation(2, 0, 200, 2, 0), Relocation(3, 0, 201, 2, 0)];
@@ -57,6 +72,7 @@ fn outcome(alloc: Global, new_files: NewFiles, line: &str) -> Result<Outcome, Fa
     let taken = relocatable(alloc, &[TEXT, TAKEN_BY_NONE], &[G], &[])?;
     let odd = relocatable(alloc, &[TEXT, INFO], &[LOCAL, F], &unknown)?;
     let strange = relocatable(alloc, &[TEXT, LINES, INFO], &[LOCAL, G], &two_unknown)?;
+    let long = relocatable(alloc, &[TEXT], &LONGS, &[])?;
     let stored = [
         StoredFile::sound("a.o", &one),
         StoredFile::sound("b.o", &two),
@@ -64,6 +80,8 @@ fn outcome(alloc: Global, new_files: NewFiles, line: &str) -> Result<Outcome, Fa
         StoredFile::sound("taken.o", &taken),
         StoredFile::sound("odd.o", &odd),
         StoredFile::sound("strange.o", &strange),
+        StoredFile::sound("long.o", &long),
+        StoredFile::sound("cut.o", &CUT),
     ];
     run_program_line(alloc, Program::Debug, &stored, new_files, line)
 }
@@ -104,7 +122,7 @@ const SLOW: NewFiles = NewFiles {
 };
 
 /// Lines, how new files answer, all that comes of a run but the bytes of files, and the paths of what it leaves.
-static ROWS: [(&str, NewFiles, &str, &str); 24] = [
+static ROWS: [(&str, NewFiles, &str, &str); 28] = [
     (
         "a.o b.o -Map=a.map",
         SLOW,
@@ -253,6 +271,32 @@ static ROWS: [(&str, NewFiles, &str, &str); 24] = [
         SOUND,
         "stat a.out\nread a.o\nread odd.o\nopen a.out\nnew .a.out.ld-0\nmode 100755\nrename .a.out.ld-0 to a.out\nout: \nerr: ld: odd.o: .debug_info: some relocations of debug data can't be done\n\nstatus 0",
         "a.out ",
+    ),
+    // LOCAL symbols that are left out for their long names, where they are wanted at all.
+    (
+        "a.o long.o",
+        SOUND,
+        "stat a.out\nread a.o\nread long.o\nopen a.out\nnew .a.out.ld-0\nmode 100755\nrename .a.out.ld-0 to a.out\nout: \nerr: ld: left out the LOCAL symbols of 1 object: their names come to more bytes than the object has\n\nstatus 0",
+        "a.out ",
+    ),
+    (
+        "-s a.o long.o",
+        SOUND,
+        "stat a.out\nread a.o\nread long.o\nopen a.out\nnew .a.out.ld-0\nmode 100755\nrename .a.out.ld-0 to a.out\nout: \nerr: \nstatus 0",
+        "a.out ",
+    ),
+    // A refused link: the name and number of the error, and what it names.
+    (
+        "a.o b.o b.o",
+        SOUND,
+        "stat a.out\nread a.o\nread b.o\nout: \nerr: ld: Duplicate (9): f\n\nstatus 1",
+        "",
+    ),
+    (
+        "a.o cut.o",
+        SOUND,
+        "stat a.out\nread a.o\nread cut.o\nout: \nerr: ld: BadObject (4): Truncated (2)\n\nstatus 1",
+        "",
     ),
 ];
 
@@ -405,6 +449,7 @@ fn linked(alloc: Global, change: &Change) -> Result<(Vec<u8>, Vec<u8>, usize), F
 fn checked(alloc: Global, change: &Change, line: &str) -> Result<(Outcome, usize), Fail> {
     let (image, map, at) = linked(alloc, change)?;
     let (one, two) = two_objects(alloc)?;
+    let long = relocatable(alloc, &[TEXT], &LONGS, &[])?;
     let stored = [
         StoredFile::sound("a.o", &one),
         StoredFile::sound("b.o", &two),
