@@ -385,6 +385,8 @@ compare 'ld: LD_OTHER: there is no linker ./none, 2' "$(told LD_OTHER=./none "$d
 compare "ld: LD_OTHER: $driver.lld is this script, 2" "$(told LD_OTHER="$driver.lld" "$driver" -r a.o)"
 unset LD_OTHER
 refuses '-z execstack: the header of the stack is that of docs/PROFILE.md' -zexecstack a.o
+refuses '-z cet-report=error: no link is refused for the notes of its objects' -z cet-report=error a.o
+gives '[a.o]' -z cet-report=warning a.o
 refuses '-m elf_i386: only elf_x86_64 is linked' -melf_i386 a.o
 refuses '-l:none.o: no directory of -L has this file' -l:none.o a.o
 refuses '--frob: this word is not known here' --frob a.o
