@@ -1,12 +1,12 @@
 -- The names that a linker or its script defines where no object does, and which values they may have (ld(1) and the default
 -- scripts of GNU ld). A certificate gives each its one value; here is what a value has to be.
-use Rattle.std.specs.Prelude.{◌≡◌, ◌⊎◌, ℕ, ◌+◌, ◌-◌, ◌*◌, ◌/◌, ◌<◌, ◌≤◌, cond, List, [], ◌∷◌, Option, None, Some, All, Any, IfSome, bit_and, codes, unwrap_or}
+use Rattle.std.specs.Prelude.{◌≡◌, ◌⊎◌, ℕ, ◌+◌, ◌-◌, ◌*◌, ◌/◌, ◌<◌, ◌≤◌, ◌&&◌, Bool, not, cond, List, [], ◌∷◌, Option, None, Some, All, Any, IfSome, bit_and, codes, unwrap_or}
 use Rattle.std.specs.Option.{option_or}
 use Rattle.std.specs.Str.{bytes_eq}
 use Rattle.elf_model.specs.Image.MemoryImage.{Encloses, first_address, loads}
 use Rattle.elf_model.specs.Link.LinkerNames.{BoundName, bound_name, fixed_bound, is_start_name, is_stop_name, named_output, output_bound}
 use Rattle.elf_model.specs.Link.LinkerValues.{end_of_pieces, is_code_piece, is_file_data, is_loaded_piece, is_zero_data, start_of_pieces}
-use Rattle.elf_model.specs.Link.Pieces.{is_of_output}
+use Rattle.elf_model.specs.Link.Pieces.{Piece, has_flag, is_of_output}
 use Rattle.elf_model.specs.Link.Placement.{Covers}
 use Rattle.elf_model.specs.declared.bound.Bound.{Bound}
 use Rattle.elf_model.specs.declared.constants.TheConstants.{PF_W}
@@ -51,19 +51,31 @@ EndsSegment end v h =
 abbrev pub IsCodeEnd : ForeignLink → ℕ → ℕ → Type 0
 IsCodeEnd l end v = IsEnd l end v ⊎ Any (EndsSegment end v) (loads l.image)
 
--- at the least address of some pieces, or before it on the pages of their segment and behind whatever comes before; where
--- there are none at the end of what comes before them
+-- the end of data: of all that the file has, or of what isn't large, behind which GNU ld and gold put the rest (AMD64 psABI,
+-- SHF_X86_64_LARGE)
+abbrev pub shf_x86_64_large : ℕ
+shf_x86_64_large = 0x10000000
+
+abbrev pub is_small_data : Piece → Bool
+is_small_data p = is_file_data p && not (has_flag shf_x86_64_large p.header)
+
+abbrev pub IsDataEnd : ForeignLink → ℕ → Type 0
+IsDataEnd l v = IsEnd l (end_of_pieces is_file_data (placed_of l)) v ⊎ IsEnd l (end_of_pieces is_small_data (placed_of l)) v
+
+-- where zeros begin: at the least address of some, or before it on the pages of a segment that is written and behind whatever
+-- comes before; where there are none at the end of data
 abbrev pub HasPages : ℕ → ℕ → ProgramHeader → Type 0
-HasPages start v h = (h.p_vaddr / 4096 * 4096 ≤ v) × (start ≤ h.p_vaddr + h.p_memsz)
+HasPages start v h =
+    (h.p_vaddr / 4096 * 4096 ≤ v) × (start ≤ h.p_vaddr + h.p_memsz) × (bit_and h.p_flags PF_W ≡ PF_W)
 
 pub record IsAhead (l : ForeignLink) (start v : ℕ) : Type 0 where
   pub ahead : v ≤ start
   pub inside : Any (HasPages start v) (loads l.image)
   pub clear : IsClear l v start
 
-abbrev pub IsStart : ForeignLink → ℕ → ℕ → Option ℕ → Type 0
-IsStart l before v None = IsEnd l before v
-IsStart l before v (Some start) = (v ≡ start) ⊎ IsAhead l start v
+abbrev pub IsZeroStart : ForeignLink → ℕ → Option ℕ → Type 0
+IsZeroStart l v None = IsDataEnd l v
+IsZeroStart l v (Some start) = (v ≡ start) ⊎ IsAhead l start v
 
 -- the end of all: of every section, block and note (slots are judged with the fill), and not far behind the last segment
 pub record IsImageEnd (l : ForeignLink) (v : ℕ) : Type 0 where
@@ -89,8 +101,8 @@ IsEndOf l output v = IsAt l v (end_of_pieces (is_of_output output) (placed_of l)
 abbrev pub IsBoundAt : ForeignLink → List ℕ → ℕ → Bound → Type 0
 IsBoundAt l name v ImageStart = v ≡ first_address (loads l.image)
 IsBoundAt l name v CodeEnd = IsCodeEnd l (end_of_pieces is_code_piece (placed_of l)) v
-IsBoundAt l name v DataEnd = IsEnd l (end_of_pieces is_file_data (placed_of l)) v
-IsBoundAt l name v ZeroStart = IsStart l (end_of_pieces is_file_data (placed_of l)) v (start_of_pieces is_zero_data (placed_of l))
+IsBoundAt l name v DataEnd = IsDataEnd l v
+IsBoundAt l name v ZeroStart = IsZeroStart l v (start_of_pieces is_zero_data (placed_of l))
 IsBoundAt l name v ImageEnd = IsImageEnd l v
 IsBoundAt l name v GotStart = l.certificate.got ≡ Some v
 IsBoundAt l name v OutputStart = IsStartOf l (named_output name) v

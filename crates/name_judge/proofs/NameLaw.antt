@@ -17,11 +17,11 @@ use Rattle.check_link.specs.declared.bounds.Span.{Span}
 use Rattle.judge_model.specs.Certificates.{NameRow}
 use Rattle.judge_model.specs.Links.{ForeignLink, placed_of}
 use Rattle.judge_model.specs.Memory.{IsInReach}
-use Rattle.judge_model.specs.Names.{AreNamesRight, IsAt, IsBoundAt, IsBoundRight, IsCodeEnd, IsEnd, IsImageEnd, IsPairRight, IsStart, EndsSegment, bound_of, pair, pairs, start_of_output}
+use Rattle.judge_model.specs.Names.{AreNamesRight, IsAt, IsBoundAt, IsBoundRight, IsCodeEnd, IsDataEnd, IsEnd, IsImageEnd, IsPairRight, IsZeroStart, EndsSegment, bound_of, pair, pairs, is_small_data, start_of_output}
 use Rattle.judge_model.specs.Placed.{things_of}
 use Rattle.judge_model.specs.declared.certificate.NoteLine.{NoteLine}
 use Rattle.link_fields.specs.Parts.{Parts, parts_of}
-use Rattle.name_judge.specs.Bounds.{AreMarks, AreNamesBy, ArePairsOne, BeginsAt, CodeEndsAt, EndsAt, IsBoundBy, IsEndOfAll, IsNoEnd, IsPairOne, IsReached, IsRowRight, SpanEnds, SpanStarts, ZerosStart}
+use Rattle.name_judge.specs.Bounds.{AreMarks, AreNamesBy, ArePairsOne, BeginsAt, CodeEndsAt, DataEndsAt, EndsAt, IsBoundBy, IsEndOfAll, IsNoEnd, IsPairOne, IsReached, IsRowRight, SpanEnds, SpanStarts, ZerosStart}
 use Rattle.name_judge.specs.Clear.{EndsBy, IsBeside, IsLastIn, IsNextIn}
 use Rattle.name_judge.specs.declared.marks.Marks.{Marks}
 
@@ -60,10 +60,26 @@ module _ (l : ForeignLink) where
             inr (inl (record { behind = b.behind; inside = b.inside; clear = (are.told v).1 (beside_of (things_of l) end v b.clear) }))
         from (inr (inr n)) = inr (inr (record { none = n.0; reached = reach_of v n.1 }))
 
-    data_iff : (v : ℕ) → EndsAt (loads l.image) m m.data_end m.data_next v ↔ IsEnd l (end_of_pieces is_file_data (placed_of l)) v
-    data_iff v =
-        subst (λ (n : ℕ). EndsAt (loads l.image) m m.data_end m.data_next v ↔ IsEnd l n v) marks.data_end
-        (end_iff m.data_end m.data_next v marks.data_next)
+    data_iff : (v : ℕ) → DataEndsAt (loads l.image) m v ↔ IsDataEnd l v
+    data_iff v = (to, from)
+      where
+        all : EndsAt (loads l.image) m m.data_end m.data_next v ↔ IsEnd l (end_of_pieces is_file_data (placed_of l)) v
+        all =
+            subst (λ (n : ℕ). EndsAt (loads l.image) m m.data_end m.data_next v ↔ IsEnd l n v) marks.data_end
+            (end_iff m.data_end m.data_next v marks.data_next)
+
+        small : EndsAt (loads l.image) m m.small_end m.small_next v ↔ IsEnd l (end_of_pieces is_small_data (placed_of l)) v
+        small =
+            subst (λ (n : ℕ). EndsAt (loads l.image) m m.small_end m.small_next v ↔ IsEnd l n v) marks.small_end
+            (end_iff m.small_end m.small_next v marks.small_next)
+
+        to : DataEndsAt (loads l.image) m v → IsDataEnd l v
+        to (inl e) = inl (all.0 e)
+        to (inr e) = inr (small.0 e)
+
+        from : IsDataEnd l v → DataEndsAt (loads l.image) m v
+        from (inl e) = inl (all.1 e)
+        from (inr e) = inr (small.1 e)
 
     code_iff : (v : ℕ) → CodeEndsAt (loads l.image) m v ↔ IsCodeEnd l (end_of_pieces is_code_piece (placed_of l)) v
     code_iff v = subst (λ (n : ℕ). CodeEndsAt (loads l.image) m v ↔ IsCodeEnd l n v) marks.code_end (to, from)
@@ -81,15 +97,15 @@ module _ (l : ForeignLink) where
 
     zeros_iff :
         (start : Option ℕ) (v : ℕ) → IfSome start (λ a. IsLastIn (things_of l) a m.zero_last) →
-        ZerosStart (loads l.image) m start v ↔ IsStart l (end_of_pieces is_file_data (placed_of l)) v start
+        ZerosStart (loads l.image) m start v ↔ IsZeroStart l v start
     zeros_iff None v are = data_iff v
     zeros_iff (Some start) v are = (to, from)
       where
-        to : BeginsAt (loads l.image) start m.zero_last v → IsStart l (end_of_pieces is_file_data (placed_of l)) v (Some start)
+        to : BeginsAt (loads l.image) start m.zero_last v → IsZeroStart l v (Some start)
         to (inl e) = inl e
         to (inr b) = inr (record { ahead = b.ahead; inside = b.inside; clear = clear_of (things_of l) v start ((are.told v).0 b.clear) })
 
-        from : IsStart l (end_of_pieces is_file_data (placed_of l)) v (Some start) → BeginsAt (loads l.image) start m.zero_last v
+        from : IsZeroStart l v (Some start) → BeginsAt (loads l.image) start m.zero_last v
         from (inl e) = inl e
         from (inr b) = inr (record { ahead = b.ahead; inside = b.inside; clear = (are.told v).1 (beside_of (things_of l) v start b.clear) })
 
@@ -134,7 +150,7 @@ module _ (l : ForeignLink) where
       bound_iff name v CodeEnd = code_iff v
       bound_iff name v DataEnd = data_iff v
       bound_iff name v ZeroStart =
-          subst (λ (o : Option ℕ). ZerosStart (loads l.image) m m.zero_start v ↔ IsStart l (end_of_pieces is_file_data (placed_of l)) v o)
+          subst (λ (o : Option ℕ). ZerosStart (loads l.image) m m.zero_start v ↔ IsZeroStart l v o)
           marks.zero_start (zeros_iff m.zero_start v marks.zero_last)
       bound_iff name v ImageEnd = all_end v
       bound_iff name v GotStart = (λ h. h, λ h. h)

@@ -16,7 +16,7 @@ use Rattle.check_link.specs.Outputs.{start_of}
 use Rattle.check_link.specs.declared.bounds.Span.{Span}
 use Rattle.judge_model.specs.Certificates.{NameRow, value_of_name}
 use Rattle.judge_model.specs.Memory.{address_limit}
-use Rattle.judge_model.specs.Names.{EndsSegment, HasPages}
+use Rattle.judge_model.specs.Names.{EndsSegment, HasPages, is_small_data}
 use Rattle.judge_model.specs.declared.certificate.NoteLine.{NoteLine}
 use Rattle.link_fields.specs.Parts.{Parts, bound_of}
 use Rattle.name_judge.specs.Clear.{IsEndOfNotes, IsFrom, IsLastIn, IsNextIn, IsUpTo}
@@ -28,6 +28,8 @@ pub record AreMarks (hs : List ProgramHeader) (qs : List Placed) (ts : List Thin
   pub code_next : IsNextIn ts m.code_end m.code_next
   pub data_end : m.data_end ≡ end_of_pieces is_file_data qs
   pub data_next : IsNextIn ts m.data_end m.data_next
+  pub small_end : m.small_end ≡ end_of_pieces is_small_data qs
+  pub small_next : IsNextIn ts m.small_end m.small_next
   pub zero_start : m.zero_start ≡ start_of_pieces is_zero_data qs
   pub zero_last : IfSome m.zero_start (λ a. IsLastIn ts a m.zero_last)
   pub image_end : m.image_end ≡ end_of_pieces is_loaded_piece qs
@@ -56,12 +58,16 @@ EndsAt hs m end next v = (v ≡ end) ⊎ IsBehindMark hs end next v ⊎ IsNoEnd 
 abbrev pub CodeEndsAt : List ProgramHeader → Marks → ℕ → Type 0
 CodeEndsAt hs m v = EndsAt hs m m.code_end m.code_next v ⊎ Any (EndsSegment m.code_end v) hs
 
+-- the end of data, or of what isn't large of it
+abbrev pub DataEndsAt : List ProgramHeader → Marks → ℕ → Type 0
+DataEndsAt hs m v = EndsAt hs m m.data_end m.data_next v ⊎ EndsAt hs m m.small_end m.small_next v
+
 -- at no address, or near
 abbrev pub IsNowhereIn : List ProgramHeader → Marks → ℕ → Type 0
 IsNowhereIn hs m v = (v ≡ 0) ⊎ IsReached hs m v
 
--- where zeros begin, or before that on the pages of their segment and behind whatever comes before; where there are none at
--- the end of data
+-- where zeros begin, or before that on the pages of a segment that is written and behind whatever comes before; where there
+-- are none at the end of data
 pub record IsAheadMark (hs : List ProgramHeader) (start : ℕ) (last : Option ℕ) (v : ℕ) : Type 0 where
   pub ahead : v ≤ start
   pub inside : Any (HasPages start v) hs
@@ -71,7 +77,7 @@ abbrev pub BeginsAt : List ProgramHeader → ℕ → Option ℕ → ℕ → Type
 BeginsAt hs start last v = (v ≡ start) ⊎ IsAheadMark hs start last v
 
 abbrev pub ZerosStart : List ProgramHeader → Marks → Option ℕ → ℕ → Type 0
-ZerosStart hs m None v = EndsAt hs m m.data_end m.data_next v
+ZerosStart hs m None v = DataEndsAt hs m v
 ZerosStart hs m (Some start) v = BeginsAt hs start m.zero_last v
 
 pub record IsEndOfAll (m : Marks) (v : ℕ) : Type 0 where
@@ -92,7 +98,7 @@ SpanEnds hs m (Some s) v = v ≡ s.end
 abbrev pub IsBoundBy : List ProgramHeader → Marks → Option ℕ → Option Span → ℕ → Bound → Type 0
 IsBoundBy hs m got span v ImageStart = v ≡ first_address hs
 IsBoundBy hs m got span v CodeEnd = CodeEndsAt hs m v
-IsBoundBy hs m got span v DataEnd = EndsAt hs m m.data_end m.data_next v
+IsBoundBy hs m got span v DataEnd = DataEndsAt hs m v
 IsBoundBy hs m got span v ZeroStart = ZerosStart hs m m.zero_start v
 IsBoundBy hs m got span v ImageEnd = IsEndOfAll m v
 IsBoundBy hs m got span v GotStart = got ≡ Some v

@@ -2,7 +2,7 @@
 ghost use Rattle.std.specs.Prelude.{◌≡◌, ◌↔◌, Any, IsTrue};
 ghost use Rattle.elf_model.specs.Image.MemoryImage.{Encloses, first_address, loads};
 ghost use Rattle.judge_model.specs.Names.{EndsSegment, HasPages};
-ghost use Rattle.name_judge.specs.Bounds.{BeginsAt, CodeEndsAt, EndsAt, IsBehindMark, IsBoundBy, IsEndOfAll, IsNoEnd, IsNowhereIn, IsReached, SpanEnds, SpanStarts, ZerosStart};
+ghost use Rattle.name_judge.specs.Bounds.{BeginsAt, CodeEndsAt, DataEndsAt, EndsAt, IsBehindMark, IsBoundBy, IsEndOfAll, IsNoEnd, IsNowhereIn, IsReached, SpanEnds, SpanStarts, ZerosStart};
 ghost use Rattle.name_judge.specs.Clear.{IsFrom, IsUpTo};
 
 use crate::marks::Marks;
@@ -108,11 +108,21 @@ fn code_ends_at(image: &ForeignImage<'_>, marks: &Marks, value: u64) -> bool
     ends_a_segment(image.segments(), marks.code_end, value)
 }
 
-/// Whether the pages of a segment reach down to an address, and the segment up to a start.
+/// Whether an address is at the end of data, or of what isn't large of it.
+fn data_ends_at(image: &ForeignImage<'_>, marks: &Marks, value: u64) -> bool
+    ensures { IsTrue result ↔ DataEndsAt (loads image.now) marks.now value }
+{
+    if ends_at(image, marks, marks.data_end, marks.data_next, value) {
+        return true;
+    }
+    ends_at(image, marks, marks.small_end, marks.small_next, value)
+}
+
+/// Whether the pages of a segment that is written reach down to an address, and the segment up to a start.
 fn has_pages(h: &ProgramHeader, start: u64, value: u64) -> bool
     ensures { IsTrue result ↔ HasPages start value h.now }
 {
-    if value < h.p_vaddr / PAGE * PAGE {
+    if value < h.p_vaddr / PAGE * PAGE || h.p_flags & PF_W != PF_W {
         return false;
     }
     start <= h.p_vaddr || start - h.p_vaddr <= h.p_memsz
@@ -143,7 +153,7 @@ fn zeros_start(image: &ForeignImage<'_>, marks: &Marks, value: u64) -> bool
 {
     match marks.zero_start {
         Some(at) => begins_at(image, at, marks.zero_last, value),
-        None => ends_at(image, marks, marks.data_end, marks.data_next, value),
+        None => data_ends_at(image, marks, value),
     }
 }
 
@@ -198,7 +208,7 @@ pub fn is_bound_at(
     match bound {
         Bound::ImageStart => value == first_address(image.segments()),
         Bound::CodeEnd => code_ends_at(image, marks, value),
-        Bound::DataEnd => ends_at(image, marks, marks.data_end, marks.data_next, value),
+        Bound::DataEnd => data_ends_at(image, marks, value),
         Bound::ZeroStart => zeros_start(image, marks, value),
         Bound::ImageEnd => is_end_of_all(marks, value),
         Bound::GotStart => got == Some(value),

@@ -1,14 +1,17 @@
 //! The addresses of a link by which the values of its names are judged.
 ghost use Rattle.std.specs.Prelude.{◌≡◌, ◌+◌, ◌^◌, ◌≤◌, All, IfSome, max};
 ghost use Rattle.elf_model.specs.Image.MemoryImage.{loads};
-ghost use Rattle.check_link.specs.PieceParts.{AreInLimit};
-ghost use Rattle.check_link.specs.Views.{placed_views};
+ghost use Rattle.elf_model.specs.Link.LinkerValues.{end_of_pieces};
+ghost use Rattle.elf_model.proofs.PieceBounds.{further};
+ghost use Rattle.check_link.specs.PieceParts.{AreInLimit, IsInLimit};
+ghost use Rattle.check_link.specs.Views.{piece_view, placed_view, placed_views};
 ghost use Rattle.judge_model.specs.Memory.{address_limit, memory_end};
+ghost use Rattle.judge_model.specs.Names.{is_small_data};
 ghost use Rattle.name_judge.specs.Bounds.{AreMarks};
 ghost use Rattle.name_judge.specs.Clear.{IsEndOfNotes, IsLastIn, IsLowEnd};
 
 use crate::gaps::{last_in, next_in};
-use check_link::{Part, Placed, end_of, start_of};
+use check_link::{Part, Piece, Placed, end_of, start_of};
 use elf_model::{ProgramHeader, Thing};
 use foreign_image::ForeignImage;
 use judge_model::NoteLine;
@@ -16,15 +19,20 @@ use judge_model::NoteLine;
 /// How far behind the last segment names may be: twice the largest page that linkers align to.
 const MARGIN: u64 = 2 * (1 << 21);
 
-/// The greatest ends of code and of data in the file, and the least address behind each that anything covers; where zeros
-/// begin, and the end of what comes before; the greatest ends of all and of the linker's notes; and the greatest address
-/// that a name may have.
+/// The flag of sections that need not be near others (AMD64 psABI, "Large code models").
+const SHF_X86_64_LARGE: u64 = 0x1000_0000;
+
+/// The greatest ends of code, of data in the file and of what isn't large of these, and the least address behind each that
+/// anything covers; where zeros begin, and the end of what comes before; the greatest ends of all and of the linker's notes;
+/// and the greatest address that a name may have.
 #[derive(Clone, Copy, Debug)]
 pub struct Marks {
     pub code_end: u64,
     pub code_next: Option<u64>,
     pub data_end: u64,
     pub data_next: Option<u64>,
+    pub small_end: u64,
+    pub small_next: Option<u64>,
     pub zero_start: Option<u64>,
     pub zero_last: Option<u64>,
     pub image_end: u64,
@@ -39,6 +47,37 @@ fn end_of_notes(notes: &[NoteLine]) -> u128
     let mut end = 0u128;
     for note in notes {
         end = end.max(note.address as u128 + note.size as u128);
+    }
+    end
+}
+
+/// Whether a piece is of data in the file that isn't large.
+fn is_small_data(piece: &Piece<'_>) -> bool
+    ensures { result ≡ is_small_data (piece_view piece.now) }
+{
+    let header = &piece.header;
+    header.is_writable() && !header.is_nobits() && header.sh_flags & SHF_X86_64_LARGE == 0
+}
+
+/// The greater of an end and that of such a piece.
+fn further_small(end: u64, placed: &Placed<'_>) -> u64
+    requires { IsInLimit (placed_view placed.now) }
+    ensures { result ≡ further is_small_data end (placed_view placed.now) }
+{
+    if is_small_data(&placed.piece) {
+        return end.max(placed.at + placed.piece.header.sh_size);
+    }
+    end
+}
+
+/// The greatest end of data in the file that isn't large; 0 without any.
+fn end_of_small(placed: &[Placed<'_>]) -> u64
+    requires { AreInLimit (placed_views placed.now) }
+    ensures { result ≡ end_of_pieces is_small_data (placed_views placed.now) }
+{
+    let mut end = 0;
+    for q in placed {
+        end = further_small(end, q);
     }
     end
 }
@@ -94,12 +133,15 @@ pub fn marks_of(
 {
     let code_end = end_of(Part::Code, placed);
     let data_end = end_of(Part::FileData, placed);
+    let small_end = end_of_small(placed);
     let zero_start = start_of(Part::Zeros, placed);
     Marks {
         code_end,
         code_next: next_in(things, code_end),
         data_end,
         data_next: next_in(things, data_end),
+        small_end,
+        small_next: next_in(things, small_end),
         zero_start,
         zero_last: last_before(things, zero_start),
         image_end: end_of(Part::Loaded, placed),

@@ -1,5 +1,5 @@
-//! Where GNU ld 2.40, gold 1.16 and LLD 14 put the names of ends and of beginnings in links that lack data, zeros or arrays, and in
-//! gold's where read-only data come behind code: the addresses are those that they wrote.
+//! Where GNU ld 2.40, gold 1.16 and LLD 14 put the names of ends and of beginnings in links that lack data, zeros or arrays, in gold's
+//! where read-only data come behind code, and in GNU ld's with large data: the addresses are those that they wrote.
 use crate::tests::images::HEADERS;
 use crate::tests::linker_names::{Layout, judged_in, lines};
 use crate::tests::sample_objects::Part;
@@ -10,6 +10,9 @@ use std::test::Fail;
 const CODE_FLAGS: u64 = SHF_ALLOC + SHF_EXECINSTR;
 
 const DATA_FLAGS: u64 = SHF_ALLOC + SHF_WRITE;
+
+/// SHF_X86_64_LARGE.
+const LARGE: u64 = 0x1000_0000;
 
 /// GNU ld: code, read-only data, an empty `.data` beside all segments, and zeros.
 static ZEROS_BY_GNU: Layout = Layout {
@@ -145,12 +148,90 @@ static ALL_BY_GOLD: Layout = Layout {
     places: &[0x40_00e8, 0x40_1120, 0x40_1128, 0x40_0108],
 };
 
+/// GNU ld: large data behind zeros, in a segment of their own.
+static LARGE_BY_GNU: Layout = Layout {
+    segments: &[
+        ProgramHeader {
+            p_vaddr: 0x40_0000,
+            p_paddr: 0x40_0000,
+            p_filesz: 0x120,
+            p_memsz: 0x120,
+            ..HEADERS
+        },
+        ProgramHeader {
+            p_flags: 5,
+            p_vaddr: 0x40_1000,
+            p_paddr: 0x40_1000,
+            p_offset: 0x1000,
+            p_filesz: 0x1e,
+            p_memsz: 0x1e,
+            ..HEADERS
+        },
+        ProgramHeader {
+            p_flags: 6,
+            p_vaddr: 0x40_2000,
+            p_paddr: 0x40_2000,
+            p_offset: 0x2000,
+            p_filesz: 4,
+            p_memsz: 0x58,
+            ..HEADERS
+        },
+        ProgramHeader {
+            p_flags: 6,
+            p_vaddr: 0x40_4058,
+            p_paddr: 0x40_4058,
+            p_offset: 0x2058,
+            p_filesz: 0x18,
+            p_memsz: 0x18,
+            ..HEADERS
+        },
+    ],
+    parts: &[
+        Part(".text", SHT_PROGBITS, CODE_FLAGS, 1, 0x1e),
+        Part(".data", SHT_PROGBITS, DATA_FLAGS, 1, 4),
+        Part(".bss", SHT_NOBITS, DATA_FLAGS, 1, 0x10),
+        Part(".ldata", SHT_PROGBITS, DATA_FLAGS + LARGE, 1, 0x18),
+        Part(".lbss", SHT_NOBITS, DATA_FLAGS + LARGE, 1, 0x40),
+    ],
+    places: &[0x40_1000, 0x40_2000, 0x40_2004, 0x40_4058, 0x40_2018],
+};
+
+/// Code whose segment goes on to that of zeros.
+static WHOLE_PAGES: Layout = Layout {
+    segments: &[
+        ProgramHeader {
+            p_flags: 5,
+            p_vaddr: 0x40_0000,
+            p_paddr: 0x40_0000,
+            p_filesz: 0x1000,
+            p_memsz: 0x1000,
+            ..HEADERS
+        },
+        ProgramHeader {
+            p_flags: 6,
+            p_vaddr: 0x40_1000,
+            p_paddr: 0x40_1000,
+            p_offset: 0x1000,
+            p_filesz: 0,
+            p_memsz: 0x20,
+            ..HEADERS
+        },
+    ],
+    parts: &[
+        Part(".text", SHT_PROGBITS, CODE_FLAGS, 1, 0x20),
+        Part(".bss", SHT_NOBITS, DATA_FLAGS, 1, 0x18),
+    ],
+    places: &[0x40_0e00, 0x40_1008],
+};
+
 /// Which layout it is.
 enum Link {
     ZerosByGnu,
     CodeByLld,
     DataByGnu,
     AllByGold,
+    LargeByGnu,
+    WholePages,
 }
 
 fn layout_of(link: &Link) -> &'static Layout {
@@ -159,13 +240,15 @@ fn layout_of(link: &Link) -> &'static Layout {
         Link::CodeByLld => &CODE_BY_LLD,
         Link::DataByGnu => &DATA_BY_GNU,
         Link::AllByGold => &ALL_BY_GOLD,
+        Link::LargeByGnu => &LARGE_BY_GNU,
+        Link::WholePages => &WHOLE_PAGES,
     }
 }
 
 /// A layout, a name, and its value.
 struct Row(Link, &'static str, u64);
 
-static RIGHT: [Row; 18] = [
+static RIGHT: [Row; 24] = [
     Row(Link::ZerosByGnu, "_etext", 0x40_101b),
     Row(Link::ZerosByGnu, "_edata", 0x40_3008),
     Row(Link::ZerosByGnu, "__bss_start", 0x40_3008),
@@ -184,11 +267,18 @@ static RIGHT: [Row; 18] = [
     Row(Link::AllByGold, "_edata", 0x40_1128),
     Row(Link::AllByGold, "__bss_start", 0x40_1128),
     Row(Link::AllByGold, "_end", 0x40_1148),
+    Row(Link::LargeByGnu, "_edata", 0x40_2004),
+    Row(Link::LargeByGnu, "_edata", 0x40_4070),
+    Row(Link::LargeByGnu, "__bss_start", 0x40_2004),
+    Row(Link::LargeByGnu, "_end", 0x40_4070),
+    Row(Link::WholePages, "__bss_start", 0x40_1000),
+    Row(Link::WholePages, "__bss_start", 0x40_1008),
 ];
 
 /// Zeros from the page before on, data that are none, and before or far behind all segments; code up to the middle of what comes
-/// behind it, or to the end of a segment that can be written; zeros that begin with data.
-static WRONG: [Row; 12] = [
+/// behind it, or to the end of a segment that can be written; zeros that begin with data; an end before large data that isn't
+/// that of the others; zeros from the end of a segment on that can't be written.
+static WRONG: [Row; 17] = [
     Row(Link::ZerosByGnu, "__bss_start", 0x40_2fff),
     Row(Link::ZerosByGnu, "__bss_start", 0x40_3101),
     Row(Link::ZerosByGnu, "_edata", 0x40_3009),
@@ -201,6 +291,11 @@ static WRONG: [Row; 12] = [
     Row(Link::AllByGold, "_etext", 0x40_0110),
     Row(Link::AllByGold, "_etext", 0x40_0121),
     Row(Link::AllByGold, "_etext", 0x40_1148),
+    Row(Link::LargeByGnu, "_edata", 0x40_2005),
+    Row(Link::LargeByGnu, "_edata", 0x40_4058),
+    Row(Link::LargeByGnu, "_end", 0x40_2058),
+    Row(Link::WholePages, "__bss_start", 0x40_0e20),
+    Row(Link::WholePages, "__bss_start", 0x40_0fff),
 ];
 
 /// Whether the value of a row is right; None where the image isn't read.
