@@ -185,6 +185,25 @@ merged_apart from to (t ∷ ts) rising all =
     by false e more other =
         in_front from to t.at (merged t.at (end_of t) ts) (All-head (λ (u : Thing). from ≤ u.at) t ts all) (leb-false t.at to e) other
 
+-- none ends past what is looked at
+with_low : (from to : ℕ) (ss : List Span) → to ≤ far → All (λ s. s.to ≤ far) ss → All (λ s. s.to ≤ far) (with_span from to ss)
+with_low from to ss low all = by (nat_lt from to)
+  where
+    by : (b : Bool) → All (λ s. s.to ≤ far) (cond b (span from to ∷ ss) ss)
+    by true = All-cons (λ (s : Span). s.to ≤ far) (span from to) ss low all
+    by false = all
+
+merged_low : (from to : ℕ) (ts : List Thing) → to ≤ far → All (λ s. s.to ≤ far) (merged from to ts)
+merged_low from to [] low = with_low from to [] low (All-nil (λ (s : Span). s.to ≤ far))
+merged_low from to (t ∷ ts) low =
+    by (nat_le t.at to) (merged_low from (max to (end_of t)) ts (omega (arith, low))) (merged_low t.at (end_of t) ts (omega arith))
+  where
+    by :
+        (b : Bool) → All (λ s. s.to ≤ far) (merged from (max to (end_of t)) ts) → All (λ s. s.to ≤ far) (merged t.at (end_of t) ts) →
+        All (λ s. s.to ≤ far) (cond b (merged from (max to (end_of t)) ts) (with_span from to (merged t.at (end_of t) ts)))
+    by true more other = more
+    by false more other = with_low from to (merged t.at (end_of t) ts) low other
+
 -- the spans of things by rising addresses are those of the things in any order
 pub are_spans : (things sorted : List Thing) (spans : List Span) → IsPermutation things sorted → Rising sorted → spans ≡ merged 0 0 sorted → AreSpansOf things spans
 are_spans things sorted spans same rising is =
@@ -196,6 +215,7 @@ are_spans things sorted spans same rising is =
       );
       some = apart.some;
       rising = apart.rising;
+      low = subst (All (λ (s : Span). s.to ≤ far)) (sym is) (merged_low 0 0 sorted (omega arith));
     }
   where
     moved : (a : ℕ) (xs ys : List Thing) → IsPermutation xs ys → Takes a xs → Takes a ys

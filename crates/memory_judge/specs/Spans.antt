@@ -36,3 +36,4 @@ pub record AreSpansOf (things : List Thing) (spans : List Span) : Type 0 where
   pub covers : (a : ℕ) → a < far → Any (IsInSpan a) spans ↔ Any (λ t. Covers t a) things
   pub some : All (λ s. s.from < s.to) spans
   pub rising : AllPairs IsSpanBefore spans
+  pub low : All (λ s. s.to ≤ far) spans

@@ -10,4 +10,4 @@ mod spans;
 pub use numbers::{holds_number, number_at, shown};
 pub use rests::{FieldSpan, holds_rest};
 pub use slots::{is_slot, slot_address};
-pub use spans::{Span, Taken, has_address, spans_of};
+pub use spans::{Span, Taken, end_of, has_address, spans_of};

@@ -16,7 +16,7 @@ pub struct Span {
 }
 
 /// Where a thing ends, at most at 2^64 - 1.
-fn end_of(thing: &Thing) -> u64
+pub fn end_of(thing: &Thing) -> u64
     ensures { result ≡ end_of thing.now }
 {
     match thing.at.checked_add(thing.size) {
