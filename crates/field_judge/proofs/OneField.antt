@@ -16,7 +16,7 @@ use Rattle.judge_model.specs.Memory.{Holds}
 use Rattle.memory_judge.specs.Numbers.{IsShown}
 use Rattle.memory_judge.specs.Slots.{IsSlotAmong}
 use Rattle.field_judge.proofs.LetterLaws.{base_slot, modulo_low, whole_is}
-use Rattle.field_judge.specs.Given.{Given, HasSlotIn, HoldsPlainIn, HoldsValueIn, letters_in, pointer_of, slot_value, value_in}
+use Rattle.field_judge.specs.Given.{AsksSlotAt, Given, HasSlotIn, HoldsPlainIn, HoldsValueIn, letters_in, pointer_of, slot_value, value_in}
 use Rattle.field_judge.specs.Kinds.{TellsSlots, formula_view, kind_view}
 use Rattle.field_judge.specs.Letters.{base_in, less_in}
 use Rattle.field_judge.specs.declared.kinds.Formula.{Formula}
@@ -137,6 +137,40 @@ slot_held image things g k asked v slot held program means h only (at, has) =
     let same : has.value ≡ v = same_Some has.value v (sym has.means ∙ means) in
     let there : slot ≡ at = only has.value at low has.held in
     h.1 (subst (λ (n : ℕ). HoldsValueIn image g k v n) (sym there) (subst (λ (n : ℕ). HoldsValueIn image g k n at) same has.held))
+
+-- The slot that its bytes tell is the one that it has, and it has no other.
+pub slot_only :
+    (image : List ℕ) (things : List Thing) (g : Given) (k : relocation.Kind) (asked : SlotKind) (o : Option ℕ) (held : Bool) →
+    IsProgram image → IsTrue held ↔ ((at : ℕ) × HasSlotIn image things g k asked at) →
+    ((v at : ℕ) → at < 2 ^ 64 → HoldsValueIn image g k v at → o ≡ Some at) → held ≡ true →
+    (at : ℕ) → (o ≡ Some at) ↔ HasSlotIn image things g k asked at
+slot_only image things g k asked o held program both only t at = (to (both.0 t), from)
+  where
+    from : {n : ℕ} → HasSlotIn image things g k asked n → o ≡ Some n
+    from {n} has = only has.value n (in_reach image things n (slot_value image asked has.value) program has.slot_is) has.held
+
+    to : ((n : ℕ) × HasSlotIn image things g k asked n) → o ≡ Some at → HasSlotIn image things g k asked at
+    to (n, has) e = subst (HasSlotIn image things g k asked) (same_Some n at (sym (from has) ∙ e)) has
+
+pub no_slot :
+    (image : List ℕ) (things : List Thing) (g : Given) (k : relocation.Kind) (asked : SlotKind) (held : Bool) →
+    IsTrue held ↔ ((at : ℕ) × HasSlotIn image things g k asked at) → held ≡ false →
+    (at : ℕ) → (None ≡ Some at) ↔ HasSlotIn image things g k asked at
+no_slot image things g k asked held both never at = (
+  λ e. absurd (none-some at e),
+  λ has. absurd (false≢true (sym never ∙ both.1 (at, has))),
+)
+
+-- by what the formula asks
+pub slot_as :
+    (image : List ℕ) (things : List Thing) (g : Given) (k : relocation.Kind) (asked : SlotKind) (o : Option ℕ) → slot_kind_of k.formula ≡ Some asked →
+    (at : ℕ) → (o ≡ Some at) ↔ HasSlotIn image things g k asked at → (o ≡ Some at) ↔ AsksSlotAt image things g k at
+slot_as image things g k asked o asks at both = (
+  λ e. record { asked = asked; asks = asks; slot_is = both.0 e },
+  λ a.
+      both.1
+      (subst (λ (s : SlotKind). HasSlotIn image things g k s at) (same_Some a.asked asked (sym a.asks ∙ asks)) a.slot_is),
+)
 
 -- The symbol's value, where it has one.
 pub record IsValue (o : Option ℕ) (a : ℕ) : Type 0 where

@@ -64,6 +64,12 @@ abbrev pub HoldsPlainIn : List ℕ → List Thing → Given → Kind → Option 
 HoldsPlainIn image things g k None = IsSomeAnd g.value (λ v. HoldsValueIn image g k v 0)
 HoldsPlainIn image things g k (Some asked) = (at : ℕ) × HasSlotIn image things g k asked at
 
+-- the same of any formula: one without a slot asks for none
+pub record AsksSlotAt (image : List ℕ) (things : List Thing) (g : Given) (k : Kind) (at : ℕ) : Type 0 where
+  pub asked : SlotKind
+  pub asks : slot_kind_of k.formula ≡ Some asked
+  pub slot_is : HasSlotIn image things g k asked at
+
 -- the field is right
 abbrev pub IsRightIn : List ℕ → List Thing → Given → Kind → Type 0
 IsRightIn image things g k =

@@ -3,7 +3,7 @@ ghost use Rattle.std.specs.Prelude.{◌≡◌, ◌≢◌, ◌↔◌, ◌%◌, �
 ghost use Rattle.elf_model.specs.Link.Relocation.{IsMismatch};
 ghost use Rattle.elf_model.specs.Link.Slots as slots;
 ghost use Rattle.judge_model.specs.Fields as fields;
-ghost use Rattle.field_judge.specs.Given.{Given, HasSlotIn, HoldsPlainIn, HoldsValueIn, IsGiven, IsRightIn, letters_in, pointer_of, slot_value};
+ghost use Rattle.field_judge.specs.Given.{AsksSlotAt, Given, HasSlotIn, HoldsPlainIn, HoldsValueIn, IsGiven, IsRightIn, letters_in, pointer_of, slot_value};
 ghost use Rattle.field_judge.specs.Kinds.{IsWidth, TellsSlots, formula_view, kind_view};
 ghost use Rattle.field_judge.specs.Letters.{AreTerms};
 
@@ -169,6 +169,50 @@ fn has_slot(
                 )
         }
         None => false,
+    }
+}
+
+/// The address of a field's slot, where it has one that is right for a symbol's value, among things that take up memory.
+fn right_slot(
+    image: &ForeignImage<'_>,
+    taken: &Taken<'_>,
+    asked: &Asked,
+    kind: &Kind,
+    slot_kind: SlotKind,
+    value: u64,
+) -> Option<u64>
+    requires width { IsWidth kind.now.width }
+    requires tells { TellsSlots (kind_view kind.now) }
+    requires slot { slots.slot_kind_of (formula_view kind.now.formula) ≡ Some slot_kind }
+    ensures { (g : Given) (v at : ℕ) → IsGiven image.now asked.now g → g.value ≡ Some v → value ≡ v % 2 ^ 64
+        → (result ≡ Some at) ↔ HasSlotIn image.now taken.now g (kind_view kind.now) slot_kind at }
+{
+    let _program = image.image();
+    if has_slot(image, taken, asked, kind, slot_kind, value) {
+        slot_of(image, *asked, kind)
+    } else {
+        None
+    }
+}
+
+/// The address of the slot of a field of a kind; None where it has none that is right, among things that take up memory.
+pub fn asked_slot(
+    image: &ForeignImage<'_>,
+    taken: &Taken<'_>,
+    asked: &Asked,
+    kind: &Kind,
+) -> Option<u64>
+    requires width { IsWidth kind.now.width }
+    requires tells { TellsSlots (kind_view kind.now) }
+    ensures { (g : Given) (at : ℕ) → IsGiven image.now asked.now g
+        → (result ≡ Some at) ↔ AsksSlotAt image.now taken.now g (kind_view kind.now) at }
+{
+    match slot_kind_of(kind.formula) {
+        Some(slot_kind) => match asked.value {
+            Some(value) => right_slot(image, taken, asked, kind, slot_kind, value),
+            None => None,
+        },
+        None => None,
     }
 }
 

@@ -8,6 +8,6 @@ mod kinds;
 mod pointers;
 mod ranges;
 
-pub use fields::{Asked, is_right};
+pub use fields::{Asked, asked_slot, is_right};
 pub use kinds::{Formula, Kind, Range, foreign_kind};
 pub use pointers::thread_pointer;

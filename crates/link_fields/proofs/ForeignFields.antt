@@ -21,6 +21,9 @@ use Rattle.judge_model.specs.Runs.{IsBetween}
 use Rattle.field_judge.specs.Given.{HasSlotIn, HoldsPlainIn, HoldsValueIn, IsRightIn, slot_value}
 use Rattle.memory_judge.specs.Slots.{IsClear, IsSlotAmong}
 use Rattle.link_fields.proofs.Lists.{apart_from, never_in, passing}
+use Rattle.link_fields.specs.Slots.{AsksSlotIn, AsksSlotUnlessOut}
+use Rattle.elf_model.proofs.Finding.{Any-from_contains}
+use Rattle.elf_model.proofs.Listed.{Contains-filter, Contains-from_filter}
 use Rattle.link_fields.specs.Parts.{AreTaken, IsFieldRightIn, IsFieldRightUnlessOut, given, has_frames, meant, parts_of}
 
 module _ (l : ForeignLink) (taken : List Thing) (are : AreTaken l taken) where
@@ -101,6 +104,16 @@ module _ (l : ForeignLink) (taken : List Thing) (are : AreTaken l taken) where
           slot_is = slot_back k asked h.value at (subst (λ (s : SlotKind). IsSlot l at (fields.slot_value l s h.value)) same h.slot);
         }
 
+    pub slot_at : (at : ℕ) → AsksSlotIn (parts_of l) taken r at → HasSlotAt l r at
+    slot_at at a = has_at a.kind a.asks.asked at a.kind_is a.asks.asks a.asks.slot_is
+
+    pub slot_in : (at : ℕ) → HasSlotAt l r at → AsksSlotIn (parts_of l) taken r at
+    slot_in at h = record {
+      kind = h.kind;
+      kind_is = h.kind_is;
+      asks = record { asked = h.asked; asks = h.asks; slot_is = has_in h.kind h.asked at h.kind_is h.asks h };
+    }
+
     plain_of :
         (k : Kind) (o : Option SlotKind) → kind_of r ≡ Some k → slot_kind_of k.formula ≡ o →
         HoldsPlainIn l.image taken (given (parts_of l) r) k o → HoldsPlain l r k o
@@ -138,6 +151,28 @@ module _ (l : ForeignLink) (taken : List Thing) (are : AreTaken l taken) where
         by : (o : Option Kind) → kind_of r ≡ o → IsSomeAnd o (HoldsField l r) → IsSomeAnd o (IsRightIn l.image taken (given (parts_of l) r))
         by None is never = never
         by (Some k) is told = (told.0, told.1, plain_in k (slot_kind_of k.formula) is refl told.2)
+
+  -- the slots of all, but for those of sections that are left out
+  pub some_slot :
+      (drops : List DropLine) → l.certificate.drops ≡ drops → (at : ℕ) →
+      Any (AsksSlotUnlessOut (parts_of l) taken drops at) (relocations (objects_of l)) ↔ Any (λ r. HasSlotAt l r at) (relocations_of l)
+  some_slot drops same at = (to, from)
+    where
+      to : Any (AsksSlotUnlessOut (parts_of l) taken drops at) (relocations (objects_of l)) → Any (λ r. HasSlotAt l r at) (relocations_of l)
+      to (i, r, low, is, a) =
+          let there : is_in_image_too l r ≡ true =
+          subst (λ (ds : List DropLine). not (is_left_out ds r.object r.section) ≡ true) (sym same) a.kept in
+          Any-from_contains (λ (s : Relocation). HasSlotAt l s at) (relocations_of l) r
+          (Contains-filter (is_in_image_too l) (relocations (objects_of l)) r (i, low, is) there) (slot_at r at a.asks)
+
+      from : Any (λ r. HasSlotAt l r at) (relocations_of l) → Any (AsksSlotUnlessOut (parts_of l) taken drops at) (relocations (objects_of l))
+      from (i, r, low, is, h) =
+          let both = Contains-from_filter (is_in_image_too l) (relocations (objects_of l)) r (i, low, is) in
+          Any-from_contains (AsksSlotUnlessOut (parts_of l) taken drops at) (relocations (objects_of l)) r both.0
+          (record {
+            kept = subst (λ (ds : List DropLine). not (is_left_out ds r.object r.section) ≡ true) same both.1;
+            asks = slot_in r at h;
+          })
 
   -- all of them, but for those of sections that are left out
   pub all_right :

@@ -6,4 +6,5 @@ pub mod Lists
 pub mod OwnRelocations
 pub mod PartitionPoints
 pub mod Rows
+pub mod SlotSteps
 pub mod WholePieces

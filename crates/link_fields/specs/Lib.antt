@@ -2,3 +2,4 @@ pub mod Drops
 pub mod Fields
 pub mod Parts
 pub mod Rests
+pub mod Slots

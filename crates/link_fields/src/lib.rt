@@ -2,7 +2,8 @@
 //! its relocations hold that (docs/DEFINITIONS.md).
 //!
 //! Begin with `LinkParts`, the parts of a link without a script. `are_fields_right` decides F5, given where memory is taken, and
-//! `are_rests_right` F7, where each section lies whole in a segment as F3 asks. A field's own bytes tell where its slot is.
+//! `are_rests_right` F7, where each section lies whole in a segment as F3 asks. A field's own bytes tell where its slot is;
+//! `slots_of` lists these.
 //! Code that linkers rewrite, merged strings and edited frames have no fields here, as the definitions ask that nothing is edited.
 #![tactic(auto)]
 
@@ -14,6 +15,7 @@ mod object_fields;
 mod own_rests;
 mod parts;
 mod relocations;
+mod slots;
 
 pub use addresses::Addresses;
 pub use drops::Drops;
@@ -21,3 +23,4 @@ pub use meanings::{Meant, symbol_meant};
 pub use own_rests::are_rests_right;
 pub use parts::LinkParts;
 pub use relocations::are_fields_right;
+pub use slots::slots_of;

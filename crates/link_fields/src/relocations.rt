@@ -63,7 +63,7 @@ fn meant_at<'a>(
 }
 
 /// What a relocation of object `number` asks of its field, given the thread pointer.
-fn asked_of<'a>(
+pub fn asked_of<'a>(
     parts: &LinkParts<'_, '_, 'a>,
     number: u64,
     loaded: &Loaded<'a>,
