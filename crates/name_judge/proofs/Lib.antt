@@ -1,3 +1,4 @@
 mod ClearSteps
 mod NameLaw
 mod RowLaw
+mod SlotLaw

@@ -128,3 +128,7 @@ pub record ArePairsOne (p : Parts) (spans : BTreeMap (Bor (List ℕ)) Span) : Ty
 pub record AreNamesBy (p : Parts) (m : Marks) (spans : BTreeMap (Bor (List ℕ)) Span) : Type 0 where
   pub rows : All (IsRowRight p m spans) p.rows
   pub pairs : ArePairsOne p spans
+
+-- the name for the end of all is behind slots that end at or below an address
+pub record IsRowBehind (p : Parts) (end : ℕ) (row : NameRow) : Type 0 where
+  pub behind : object_meaning p.objects row.name ≡ None → bound_of p.pieces row.name ≡ Some ImageEnd → end ≤ row.value

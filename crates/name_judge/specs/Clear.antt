@@ -33,3 +33,10 @@ pub record IsEndOfNotes (ns : List NoteLine) (end : ℕ) : Type 0 where
 -- a segment ends where addresses can
 pub record IsLowEnd (h : ProgramHeader) : Type 0 where
   pub low : h.p_vaddr + h.p_memsz ≤ 2 ^ 47
+
+-- a slot ends at or below an address; the greatest end of slots
+pub record IsSlotBy (v at : ℕ) : Type 0 where
+  pub end : at + 8 ≤ v
+
+pub record IsEndOfSlots (slots : List ℕ) (end : ℕ) : Type 0 where
+  pub told : (v : ℕ) → (end ≤ v) ↔ All (IsSlotBy v) slots

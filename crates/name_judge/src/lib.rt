@@ -7,5 +7,7 @@ mod gaps;
 mod marks;
 mod names;
 mod rows;
+mod slot_ends;
 
 pub use names::are_names_right;
+pub use slot_ends::are_ends_behind_slots;

@@ -15,7 +15,7 @@ use link_fields::LinkParts;
 use std::collections::BTreeMap;
 
 /// What a name of the linker's stands for; None where the linker defines nothing for it.
-fn bound_of(outputs: &Outputs<'_, '_>, name: &[u8]) -> Option<Bound>
+pub fn bound_of(outputs: &Outputs<'_, '_>, name: &[u8]) -> Option<Bound>
     ensures { result ≡ words.bound_of outputs.now name.now }
 {
     if let Some(bound) = fixed_bound(name) {
@@ -29,7 +29,7 @@ fn bound_of(outputs: &Outputs<'_, '_>, name: &[u8]) -> Option<Bound>
 }
 
 /// Whether objects define what a name means.
-fn is_meant(names: &Names<'_, '_>, name: &[u8]) -> bool
+pub fn is_meant(names: &Names<'_, '_>, name: &[u8]) -> bool
     ensures { result ≡ is_some (object_meaning names.now name.now) }
 {
     match names.chosen(name) {
