@@ -6,4 +6,4 @@
 
 mod rows;
 
-pub use rows::open_rows;
+pub use rows::{load_row, open_rows};

@@ -33,8 +33,13 @@ fn bytes_of<'a>(input: &Input<'a>, row: &ObjectLine) -> &'a [u8]
     item.bytes
 }
 
-/// Loads the object of a line; nothing where there is no such item.
-fn load_row<'a>(
+/// Loads the object of a line: the member of its item whose header is at its offset, or its item itself; nothing where there is
+/// no such item.
+///
+/// # Errors
+///
+/// Memory where a growth is refused; Unlawful where it is no object, or has groups that aren't lawful.
+pub fn load_row<'a>(
     alloc: Global,
     places: &Places<'_, '_>,
     loader: &mut Loader<'_, 'a>,
@@ -42,6 +47,7 @@ fn load_row<'a>(
     row: &ObjectLine,
 ) -> Result<(), Stop>
     requires known { Knows places.now loader.old }
+    ensures plan { OnOk result (loader.new.plan.now ≡ loader.old.plan.now) }
     ensures known { OnOk result (Knows places.now loader.new) }
     ensures loaded { OnOk result (loaded loader.new
         ≡ with_row inputs.now (loaded loader.old) (object_row row.now)) }
@@ -93,7 +99,8 @@ fn load_at<'a>(
     ensures loaded { IfOk result (λ v. loaded_views v.objects.items
         ≡ objects_behind inputs.now [] (map object_row rows.now)) }
     ensures numbered { IfOk result (λ v. AreNumbered v.names v.objects.items) }
-    ensures good { OnOk result (AreLoadable (objects_behind inputs.now [] (map object_row rows.now))) }
+    ensures good { OnOk result (AreLoadable
+        (objects_behind inputs.now [] (map object_row rows.now))) }
     ensures stop { IfErr result (Refutes
         (AreLoadable (objects_behind inputs.now [] (map object_row rows.now)))) }
 {
