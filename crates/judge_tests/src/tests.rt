@@ -9,6 +9,7 @@ mod header_rights;
 mod images;
 mod kept_sections;
 mod linker_names;
+mod loading_orders;
 mod made_notes;
 mod places;
 mod sample_objects;
