@@ -32,8 +32,8 @@ fn is_gathered_by(name: &[u8], gathering: &[u8]) -> bool
     rest[0] == b'.' && front == gathering
 }
 
-/// Whether one of some names gathers a name.
-fn is_gathered(name: &[u8], gathering: &[&[u8]]) -> bool
+/// Whether one of some names gathers a name: the name is that one, or begins with it and a dot.
+pub fn is_gathered(name: &[u8], gathering: &[&[u8]]) -> bool
     ensures { result ≡ list_any (λ g. pieces.is_gathered_by name.now g.now) gathering.now }
 {
     gathering.iter().any(|g| is_gathered_by(name, g))

@@ -7,4 +7,5 @@ mod headers;
 mod protected;
 mod stack;
 
+pub use early_names::is_gathered;
 pub use headers::are_headers_right;
