@@ -1,0 +1,4 @@
+pub mod ApartLaws
+pub mod CompiledLaws
+pub mod InsideLaws
+pub mod SetLaws

@@ -1,0 +1,5 @@
+pub mod Apart
+pub mod Compiled
+pub mod Edited
+pub mod Inside
+pub mod SectionSets
