@@ -7,6 +7,7 @@ mod fillers;
 mod gaps;
 mod header_rights;
 mod images;
+mod judged_inputs;
 mod kept_sections;
 mod linker_names;
 mod loading_orders;

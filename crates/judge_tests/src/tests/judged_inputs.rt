@@ -1,0 +1,282 @@
+//! Inputs that leave open what a right link of them is, and such that don't: objects for link-time optimization, arrays that aren't
+//! whole (System V gABI 4, .init_array), what linkers edit (SHF_MERGE, .eh_frame), fields beyond their sections (AMD64 psABI 4.4).
+use crate::tests::sample_objects::{Named, Part, file, loaded, object, words};
+use check_link::Piece;
+use elf_model::{
+    DropLine, PlaceLine, SHF_ALLOC, SHF_EXECINSTR, SHF_MERGE, SHT_PROGBITS, SHT_RELA, SectionHeader,
+};
+use input_judge::{
+    are_arrays_whole, are_compiled, are_fields_apart, are_fields_inside, are_unedited,
+};
+use link_fields::Drops;
+use std::alloc::Global;
+use std::test::Fail;
+
+const TEXT: Part = Part(".text", SHT_PROGBITS, SHF_ALLOC + SHF_EXECINSTR, 1, 8);
+
+/// Whether an object that has a section of this name beside its code is one of machine code.
+fn is_compiled(alloc: Global, name: &'static str) -> Result<bool, Fail> {
+    let parts = [TEXT, Part(name, SHT_PROGBITS, 0, 1, 8)];
+    let bytes = object(alloc, &parts, &[Named("_start", 0x12, 1, 0)])?;
+    let files = file(alloc, bytes)?;
+    let words = words(alloc)?;
+    let named = loaded(alloc, &words, &files)?;
+    Ok(are_compiled(&named.objects))
+}
+
+#[test]
+fn objects_of_compilers_own_code_are_told(rt: HostRuntime) -> Result<(), Fail> {
+    assert!(rt; !is_compiled(rt.alloc(), ".gnu.lto_.decls")?);
+    assert!(rt; !is_compiled(rt.alloc(), ".gnu.lto_main.1")?);
+    assert!(rt; is_compiled(rt.alloc(), ".gnu.lto")?);
+    assert!(rt; is_compiled(rt.alloc(), ".comment")?);
+    Ok(())
+}
+
+/// A section of an array, or of another name: its name, alignment and size.
+static WHOLE: [(&str, u64, u64); 6] = [
+    (".init_array", 8, 16),
+    (".fini_array.5", 8, 8),
+    (".ctors", 8, 0),
+    (".data", 1, 3),
+    (".init_arrays", 1, 3),
+    (".dtor", 4, 12),
+];
+
+static BROKEN: [(&str, u64, u64); 6] = [
+    (".init_array", 4, 8),
+    (".init_array.00001", 8, 12),
+    (".fini_array", 16, 16),
+    (".preinit_array", 0, 8),
+    (".ctors.65535", 8, 4),
+    (".dtors", 1, 8),
+];
+
+fn is_whole(row: &(&'static str, u64, u64)) -> bool {
+    let header = SectionHeader {
+        sh_addralign: row.1,
+        sh_size: row.2,
+        ..SectionHeader::NULL
+    };
+    are_arrays_whole(&[Piece {
+        object: 0,
+        section: 1,
+        header,
+        name: row.0.as_bytes(),
+        bytes: &[],
+    }])
+}
+
+#[test]
+fn arrays_have_whole_entries(rt: HostRuntime) -> Result<(), Fail> {
+    for row in &WHOLE {
+        assert!(rt; is_whole(row), "{}", row.0);
+    }
+    for row in &BROKEN {
+        assert!(rt; !is_whole(row), "{}", row.0);
+    }
+    Ok(())
+}
+
+/// A section: its name, flags and entry size.
+static PLAIN: [(&str, u64, u64); 4] = [
+    (".rodata", SHF_ALLOC, 1),
+    (".rodata.cst8", SHF_ALLOC + SHF_MERGE, 0),
+    (".eh_frame_hdr", SHF_ALLOC, 0),
+    (".note.gnu.property", SHF_ALLOC, 0),
+];
+
+static EDITED: [(&str, u64, u64); 4] = [
+    (".rodata.str1.1", SHF_ALLOC + SHF_MERGE, 1),
+    (".rodata.cst16", SHF_ALLOC + SHF_MERGE, 16),
+    (".eh_frame", SHF_ALLOC, 0),
+    (".eh_frame", SHF_ALLOC + SHF_MERGE, 1),
+];
+
+/// Whether linkers leave section 2 of object 1 as it is, which is no object's that is loaded, given one line.
+fn is_plain(alloc: Global, row: &(&'static str, u64, u64), line: (u64, u64)) -> Result<bool, Fail> {
+    let header = SectionHeader {
+        sh_flags: row.1,
+        sh_entsize: row.2,
+        ..SectionHeader::NULL
+    };
+    let piece = Piece {
+        object: 1,
+        section: 2,
+        header,
+        name: row.0.as_bytes(),
+        bytes: &[],
+    };
+    let place = PlaceLine {
+        address: 0x20_1000,
+        size: 8,
+        object: line.0,
+        section: line.1,
+        name: Vec::new(alloc),
+    };
+    Ok(are_unedited(alloc, &[], &[piece], &[place])?)
+}
+
+#[test]
+fn linkers_edit_strings_constants_and_frames(rt: HostRuntime) -> Result<(), Fail> {
+    for row in &PLAIN {
+        assert!(rt; is_plain(rt.alloc(), row, (2, 1))?, "{}", row.0);
+    }
+    for row in &EDITED {
+        assert!(rt; !is_plain(rt.alloc(), row, (2, 1))?, "{}", row.0);
+        assert!(rt; !is_plain(rt.alloc(), row, (0, 2))?, "{}", row.0);
+        assert!(rt; is_plain(rt.alloc(), row, (1, 2))?, "{}", row.0);
+    }
+    Ok(())
+}
+
+/// Code, and two sections of one relocation each, whose entries begin behind the file header and the code.
+static RELOCATED: [Part; 3] = [
+    TEXT,
+    Part(".rela.text", SHT_RELA, 0, 8, 24),
+    Part(".rela.text", SHT_RELA, 0, 8, 24),
+];
+
+const ENTRY: usize = 72;
+
+fn put(bytes: &mut [u8], at: usize, number: u64, width: usize) {
+    let field = bytes.iter_mut().skip(at).take(width);
+    for (byte, new) in field.zip(number.to_le_bytes()) {
+        *byte = new;
+    }
+}
+
+/// A relocation: its offset and its type.
+type Place = (u64, u64);
+
+/// Makes the section whose header is at an offset one of relocations of section 1 with the symbols of section 4, and puts its entry
+/// at another offset.
+fn put_relocation(bytes: &mut [u8], header: usize, entry: usize, place: Place) {
+    put(bytes, header.saturating_add(40), 4, 4);
+    put(bytes, header.saturating_add(44), 1, 4);
+    put(bytes, header.saturating_add(56), 24, 8);
+    put(bytes, entry, place.0, 8);
+    put(bytes, entry.saturating_add(8), 0x1_0000_0000 | place.1, 8);
+}
+
+/// An object with two relocations in its eight bytes of code. Its section headers are its last bytes: those of no section, the
+/// three of `RELOCATED`, the symbol table, its names and the names of sections.
+fn relocated(alloc: Global, first: Place, second: Place) -> Result<Vec<u8>, Fail> {
+    let mut bytes = object(alloc, &RELOCATED, &[Named("_start", 0x12, 1, 0)])?;
+    let headers = bytes.len().saturating_sub(5 * 64);
+    put_relocation(&mut bytes, headers, ENTRY, first);
+    put_relocation(&mut bytes, headers.saturating_add(64), ENTRY + 24, second);
+    Ok(bytes)
+}
+
+/// Whether the fields of these relocations are inside, given the lines of sections that are left out.
+fn are_inside(
+    alloc: Global,
+    first: Place,
+    second: Place,
+    drops: &[DropLine],
+) -> Result<bool, Fail> {
+    let files = file(alloc, relocated(alloc, first, second)?)?;
+    let words = words(alloc)?;
+    let named = loaded(alloc, &words, &files)?;
+    Ok(are_fields_inside(&named.objects, &Drops::new(drops)))
+}
+
+/// R_X86_64_64 (1) has eight bytes, R_X86_64_PC32 (2) and R_X86_64_PLT32 (4) have four, R_X86_64_8 (14) has one, and 200 is no type.
+static INSIDE: [Place; 6] = [(0, 1), (4, 2), (3, 4), (7, 14), (8, 200), (0, 2)];
+
+static BEYOND: [Place; 6] = [(1, 1), (5, 2), (8, 4), (8, 14), (9, 200), (u64::MAX, 1)];
+
+#[test]
+fn fields_lie_inside_their_sections(rt: HostRuntime) -> Result<(), Fail> {
+    for place in &INSIDE {
+        assert!(rt; are_inside(rt.alloc(), *place, (0, 14), &[])?);
+    }
+    for place in &BEYOND {
+        assert!(rt; !are_inside(rt.alloc(), *place, (0, 14), &[])?);
+        assert!(rt; !are_inside(rt.alloc(), (0, 14), *place, &[])?);
+    }
+    Ok(())
+}
+
+const CODE: DropLine = DropLine {
+    object: 0,
+    section: 1,
+};
+
+const OTHER: DropLine = DropLine {
+    object: 1,
+    section: 1,
+};
+
+#[test]
+fn fields_of_sections_that_are_left_out_may_be_anywhere(rt: HostRuntime) -> Result<(), Fail> {
+    assert!(rt; are_inside(rt.alloc(), (9, 1), (9, 1), &[CODE])?);
+    assert!(rt; !are_inside(rt.alloc(), (9, 1), (0, 14), &[OTHER])?);
+    Ok(())
+}
+
+/// Whether the fields of these relocations are apart.
+fn are_apart(alloc: Global, pair: (Place, Place), drops: &[DropLine]) -> Result<bool, Fail> {
+    let files = file(alloc, relocated(alloc, pair.0, pair.1)?)?;
+    let words = words(alloc)?;
+    let named = loaded(alloc, &words, &files)?;
+    Ok(are_fields_apart(alloc, &named.objects, &Drops::new(drops))?)
+}
+
+/// Side by side, in either order; those of no type have no bytes.
+static APART: [(Place, Place); 5] = [
+    ((0, 2), (4, 2)),
+    ((4, 2), (0, 4)),
+    ((7, 14), (6, 14)),
+    ((0, 200), (0, 1)),
+    ((2, 1), (3, 200)),
+];
+
+static OVERLAPPING: [(Place, Place); 5] = [
+    ((0, 2), (3, 2)),
+    ((3, 14), (0, 2)),
+    ((0, 1), (0, 1)),
+    ((4, 4), (0, 1)),
+    ((0, 1), (7, 14)),
+];
+
+#[test]
+fn no_byte_lies_in_two_fields(rt: HostRuntime) -> Result<(), Fail> {
+    for pair in &APART {
+        assert!(rt; are_apart(rt.alloc(), *pair, &[])?);
+    }
+    for pair in &OVERLAPPING {
+        assert!(rt; !are_apart(rt.alloc(), *pair, &[])?);
+        assert!(rt; !are_apart(rt.alloc(), *pair, &[OTHER])?);
+        assert!(rt; are_apart(rt.alloc(), *pair, &[CODE])?);
+    }
+    Ok(())
+}
+
+/// Whether linkers leave the code of that object as it is, if its section were one of constants, whose relocations have these types.
+fn is_left(alloc: Global, first: u64, second: u64) -> Result<bool, Fail> {
+    let files = file(alloc, relocated(alloc, (0, first), (4, second))?)?;
+    let words = words(alloc)?;
+    let named = loaded(alloc, &words, &files)?;
+    let piece = Piece {
+        object: 0,
+        section: 1,
+        header: SectionHeader {
+            sh_flags: SHF_ALLOC + SHF_MERGE,
+            sh_entsize: 8,
+            ..SectionHeader::NULL
+        },
+        name: b".rodata.cst8",
+        bytes: &[],
+    };
+    Ok(are_unedited(alloc, &named.objects, &[piece], &[])?)
+}
+
+#[test]
+fn constants_that_relocations_change_are_left(rt: HostRuntime) -> Result<(), Fail> {
+    assert!(rt; is_left(rt.alloc(), 1, 0)?);
+    assert!(rt; is_left(rt.alloc(), 0, 2)?);
+    assert!(rt; !is_left(rt.alloc(), 0, 0)?);
+    Ok(())
+}
