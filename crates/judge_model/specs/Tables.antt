@@ -1,13 +1,14 @@
 -- F13. The section headers and the symbol table of an image, where it has them: they are true (System V gABI 4, "Sections",
 -- "Symbol Table"). Programs run without them; debuggers and profilers believe them.
-use Rattle.std.specs.Prelude.{◌≡◌, ◌⊎◌, ℕ, ◌+◌, ◌-◌, ◌*◌, ◌%◌, ◌^◌, ◌<◌, ◌≤◌, ◌==◌, ◌&&◌, Bool, true, false, not, cond, List, None, Some, All, Any, IsSomeAnd, bit_and, drop, find, is_some, length, nat_le, nat_lt, unwrap_or, count_by}
-use Rattle.std.specs.List.{prefix_len, slice_get}
+use Rattle.std.specs.Prelude.{◌≡◌, ◌⊎◌, ℕ, ◌+◌, ◌-◌, ◌*◌, ◌%◌, ◌^◌, ◌<◌, ◌≤◌, ◌==◌, ◌&&◌, ◌||◌, Bool, true, false, not, cond, List, [], ◌∷◌, None, Some, All, Any, IsSomeAnd, bit_and, codes, drop, find, is_some, length, nat_le, nat_lt, unwrap_or, count_by}
+use Rattle.std.specs.List.{list_any, prefix_len, slice_get}
 use Rattle.std.specs.Option.{option_map_or}
 use Rattle.std.specs.Str.{bytes_eq}
 use Rattle.byteview.specs.Numbers.{part, text}
 use Rattle.elf_model.specs.Image.MemoryImage.{loads}
 use Rattle.elf_model.specs.Inputs.ObjectFile.{contents, entries, has_no_bytes, section, symbol_table, symbols_of}
 use Rattle.elf_model.specs.Inputs.Records.{file_header, section_header}
+use Rattle.elf_model.specs.Link.LinkerNames.{is_start_name, is_stop_name}
 use Rattle.elf_model.specs.Link.LinkerValues.{start_of_pieces}
 use Rattle.elf_model.specs.Link.Meaning.{Common, Linker, Meaning, Symbol, is_in_thread_storage, meaning_size}
 use Rattle.elf_model.specs.Link.Pieces.{is_alloc, is_nobits, is_thread_local, is_thread_piece, load_size}
@@ -147,8 +148,8 @@ IsLocalOf l name e s =
 abbrev pub IsLocalEntry : ForeignLink → List ℕ → entry.Symbol → Type 0
 IsLocalEntry l name e = (binding e ≡ STB_LOCAL) × Any (IsLocalOf l name e) (all_symbols (objects_of l))
 
--- it names a script's value; it names nothing, as no object defines what a WEAK symbol asks for; it stands for a file or a
--- section
+-- it names a script's value; it names nothing, as no object defines what a WEAK symbol asks for, or as the linker made the name;
+-- it stands for a file or a section
 abbrev pub IsScriptEntry : ForeignLink → List ℕ → entry.Symbol → Type 0
 IsScriptEntry l name e = (is_by_script l name ≡ true) × (value_of_name l.certificate.names name ≡ Some e.st_value)
 
@@ -157,6 +158,23 @@ pub record IsMissing (l : ForeignLink) (name : List ℕ) (e : entry.Symbol) : Ty
   pub value : e.st_value ≡ 0
   pub weak : is_weak e ≡ true
   pub none : object_or_linker l name ≡ None
+
+-- The names that linkers make of themselves and no object defines: those of dynamic linking, and bounds of sections that the
+-- image hasn't. They are LOCAL, and whatever value they have is nobody's.
+abbrev pub made_names : List (List ℕ)
+made_names =
+    codes "_DYNAMIC" ∷ codes "_PROCEDURE_LINKAGE_TABLE_" ∷ codes "_TLS_MODULE_BASE_" ∷ codes "__GNU_EH_FRAME_HDR" ∷ codes "__dso_handle"
+    ∷ codes "__rela_iplt_start" ∷ codes "__rela_iplt_end" ∷ []
+
+abbrev pub is_made_name : List ℕ → Bool
+is_made_name name = list_any (bytes_eq name) made_names || (is_start_name name || is_stop_name name)
+
+pub record IsMade (l : ForeignLink) (name : List ℕ) (e : entry.Symbol) : Type 0 where
+  pub known : is_made_name name ≡ true
+  pub none : object_or_linker l name ≡ None
+  pub binding_ : binding e ≡ STB_LOCAL
+  pub type_ : symbol_type e ≡ STT_NOTYPE
+  pub size : e.st_size ≡ 0
 
 pub record IsFile (e : entry.Symbol) : Type 0 where
   pub type_ : symbol_type e ≡ STT_FILE
@@ -175,6 +193,7 @@ IsEntryRight l e =
     ⊎ IsLocalEntry l (name_of_entry l.image e) e
     ⊎ IsScriptEntry l (name_of_entry l.image e) e
     ⊎ IsMissing l (name_of_entry l.image e) e
+    ⊎ IsMade l (name_of_entry l.image e) e
     ⊎ IsFile e
     ⊎ IsSection l.image e
 
