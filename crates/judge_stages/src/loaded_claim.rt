@@ -1,0 +1,128 @@
+//! A link that is judged whose objects are loaded: the names of these, and the sections that the image has.
+ghost use Rattle.std.specs.Prelude.{◌≡◌, All, IfOk, false, filter};
+ghost use Rattle.check_link.specs.Views.{piece_views};
+ghost use Rattle.check_load.specs.Numbered.{AreNumbered};
+ghost use Rattle.check_load.specs.Views.{loaded_views};
+ghost use Rattle.elf_model.specs.Link.Pieces.{kept_sections};
+ghost use Rattle.judge_model.specs.Certificates.{IsInOrder};
+ghost use Rattle.judge_model.specs.Links.{objects_of, pieces_of, plain_pieces};
+ghost use Rattle.judge_model.specs.RightForeign.{is_edited};
+ghost use Rattle.judge_stages.specs.Stages.{is_there};
+
+use crate::claim::Claim;
+use crate::keys::keys_of;
+use crate::pieces::{plain_among, those_there};
+use check_link::{Names, Piece, pieces_of};
+use check_load::{Loaded, NameTable};
+use link_fields::Drops;
+use std::alloc::{AllocError, Global};
+use std::marker::Model;
+
+/// A link with the names of its loaded objects, the lines of the sections that are left out, and the other sections.
+#[derive(Drop)]
+pub struct LoadedClaim<'o, 'a> {
+    claim: &'a Claim<'a>,
+    names: Names<'o, 'a>,
+    drops: Drops<'a>,
+    pieces: Vec<Piece<'a>>,
+}
+
+impl<'o, 'a> Model for LoadedClaim<'o, 'a> {
+    ghost use Rattle.check_link.specs.Views.{piece_views};
+    ghost use Rattle.judge_model.specs.Links.{ForeignLink};
+    ghost use Rattle.judge_stages.specs.Stages.{IsLoadedClaim};
+
+    ghost Value = { ForeignLink };
+
+    ghost view = { λ c. c.claim.now };
+
+    ghost invariant = { λ c. IsLoadedClaim c.claim.now c.names c.drops (piece_views c.pieces.items) };
+}
+
+/// The sections of objects that aren't left out.
+fn image_pieces<'a>(
+    alloc: Global,
+    objects: &[Loaded<'a>],
+    drops: &Drops<'_>,
+) -> Result<Vec<Piece<'a>>, AllocError>
+    ensures { IfOk result (λ v. piece_views v.items
+        ≡ filter (is_there drops.now) (kept_sections (loaded_views objects.now))) }
+{
+    let kept = pieces_of(alloc, objects)?;
+    those_there(alloc, &kept, drops)
+}
+
+impl<'o, 'a> LoadedClaim<'o, 'a> {
+    /// A link with its loaded objects and the names whose numbers their symbols have. The lines of its certificate are in order.
+    ///
+    /// # Errors
+    ///
+    /// Only where memory is refused.
+    pub fn new(
+        alloc: Global,
+        claim: &'a Claim<'a>,
+        objects: &'o [Loaded<'a>],
+        names: NameTable<'a>,
+    ) -> Result<LoadedClaim<'o, 'a>, AllocError>
+        requires objects { loaded_views objects.now ≡ objects_of claim.now }
+        requires numbered { AreNumbered names objects.now }
+        requires ordered { IsInOrder claim.now.certificate }
+        ensures { IfOk result (λ c. c ≡ claim.entry.now) }
+    {
+        let drops = Drops::new(&claim.certificate.drops);
+        let pieces = image_pieces(alloc, objects, &drops)?;
+        let names = Names::new(alloc, objects, names)?;
+        Ok(LoadedClaim {
+            claim,
+            names,
+            drops,
+            pieces,
+        })
+    }
+
+    /// What is claimed.
+    pub fn claim(&self) -> &'a Claim<'a>
+        ensures { result.now ≡ self.entry.now }
+    {
+        self.claim
+    }
+
+    /// The names of the loaded objects.
+    pub fn names(&self) -> &Names<'o, 'a>
+        ensures { result.now ≡ objects_of self.entry.now }
+    {
+        &self.names
+    }
+
+    /// The lines of the sections that are left out.
+    pub fn drops(&self) -> &Drops<'a>
+        ensures { result.now ≡ self.entry.now.certificate.drops }
+    {
+        &self.drops
+    }
+
+    /// The sections that the image has.
+    pub fn pieces(&self) -> &[Piece<'a>]
+        ensures { piece_views result.now ≡ pieces_of self.entry.now }
+    {
+        &self.pieces
+    }
+}
+
+/// The sections of a link that its linker didn't edit, where it edited none that this judge can't judge.
+///
+/// # Errors
+///
+/// Only where memory is refused.
+pub fn plain_pieces<'a>(
+    alloc: Global,
+    loaded: &LoadedClaim<'_, 'a>,
+) -> Result<Vec<Piece<'a>>, AllocError>
+    requires ordered { IsInOrder loaded.now.certificate }
+    requires unedited { All (λ p. is_edited loaded.now p ≡ false) (pieces_of loaded.now) }
+    ensures { IfOk result (λ v. piece_views v.items ≡ plain_pieces loaded.now) }
+{
+    let claim = loaded.claim();
+    let keys = keys_of(alloc, &claim.certificate.places)?;
+    plain_among(alloc, loaded.pieces(), &Drops::new(&keys))
+}
