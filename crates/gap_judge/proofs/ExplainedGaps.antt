@@ -20,7 +20,8 @@ use Rattle.memory_judge.specs.declared.spans.Span.{Span}
 use Rattle.gap_judge.proofs.GapLaws.{AreLeft, of_gaps}
 use Rattle.gap_judge.specs.Fill.{HoldsFill, HoldsFillIn, IsFill, IsSegmentFilled}
 use Rattle.gap_judge.specs.Gaps.{IsGapBetween, gaps}
-use Rattle.gap_judge.specs.Links.{AreGapsFilled, AreRunGaps, AreSlots}
+use Rattle.link_fields.specs.Slots.{AreSlots}
+use Rattle.gap_judge.specs.Links.{AreGapsFilled, AreRunGaps}
 
 module _ (l : ForeignLink) (slots : List ℕ) (are : AreSlots l slots) where
   -- addresses that things and slots take up are those that are explained

@@ -2,16 +2,11 @@
 use Rattle.std.specs.Prelude.{◌≡◌, ◌↔◌, ◌-◌, ◌<◌, ℕ, List, All, AllPairs, Any, Contains, length}
 use Rattle.elf_model.specs.Image.MemoryImage.{loads}
 use Rattle.elf_model.specs.declared.records.ProgramHeader.{ProgramHeader}
-use Rattle.judge_model.specs.Fields.{HasSlotAt}
 use Rattle.judge_model.specs.Fill.{IsGap, IsGapRight, IsRunThrough}
-use Rattle.judge_model.specs.Links.{ForeignLink, relocations_of}
+use Rattle.judge_model.specs.Links.{ForeignLink}
 use Rattle.judge_model.specs.Memory.{Holds}
 use Rattle.memory_judge.specs.Spans.{IsInSpan, IsSpanBefore}
 use Rattle.memory_judge.specs.declared.spans.Span.{Span}
-
--- the addresses of the slots that its fields ask for, in any order
-pub record AreSlots (l : ForeignLink) (slots : List ℕ) : Type 0 where
-  pub slots_are : (at : ℕ) → Contains slots at ↔ Any (λ r. HasSlotAt l r at) (relocations_of l)
 
 -- the gaps of its runs of code, as spans that rise apart
 pub record AreRunGaps (l : ForeignLink) (runs : List Span) : Type 0 where

@@ -4,7 +4,8 @@ ghost use Rattle.judge_model.specs.Fields as fields;
 ghost use Rattle.judge_model.specs.Links.{ForeignLink};
 ghost use Rattle.judge_model.specs.Placed.{things_of};
 ghost use Rattle.memory_judge.specs.Spans.{IsSpanBefore};
-ghost use Rattle.gap_judge.specs.Links.{AreGapsFilled, AreRunGaps, AreSlots};
+ghost use Rattle.link_fields.specs.Slots.{AreSlots};
+ghost use Rattle.gap_judge.specs.Links.{AreGapsFilled, AreRunGaps};
 
 use crate::gaps::are_segments_filled;
 use elf_model::Thing;
