@@ -15,5 +15,6 @@ mod made_notes;
 mod places;
 mod sample_objects;
 mod section_headers;
+mod section_runs;
 mod thread_blocks;
 mod words_of_others;

@@ -60,8 +60,8 @@ fn are_rows_behind(parts: &LinkParts<'_, '_, '_>, end: u128, rows: &[NameLine]) 
     true
 }
 
-/// Whether the names for the end of all, where no object defines them, are behind the slots that fields ask for, given a link's parts
-/// and the addresses of these slots.
+/// Whether the names for the end of all, where no object defines them, are behind the slots that fields ask for, given a
+/// link's parts and the addresses of these slots.
 pub fn are_ends_behind_slots(parts: &LinkParts<'_, '_, '_>, slots: &[u64]) -> bool
     ensures { (l : ForeignLink) → parts_of l ≡ parts.now → AreSlots l slots.now
         → IsTrue result ↔ All (IsBehindSlots l) l.certificate.names }

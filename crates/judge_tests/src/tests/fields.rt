@@ -3,7 +3,7 @@
 use crate::tests::images::{BLOCK, CODE, HEADER, HEADERS, image_with};
 use byteview::View;
 use elf_model::Thing;
-use field_judge::{Asked, foreign_kind, is_right, thread_pointer};
+use field_judge::{Asked, asked_slot, foreign_kind, is_right, thread_pointer};
 use foreign_image::ForeignImage;
 use memory_judge::{FieldSpan, Taken, holds_rest};
 use std::alloc::{AllocError, Global};
@@ -161,9 +161,9 @@ fn thing_at(at: u64, size: u64) -> Thing {
     }
 }
 
-/// Whether a row's field is right in an image, where this memory is taken.
-fn judged_in(image: &ForeignImage<'_>, row: &Row, taken: &Taken<'_>) -> bool {
-    let asked = Asked {
+/// What a row asks of its field.
+fn asked_of(image: &ForeignImage<'_>, row: &Row) -> Asked {
+    Asked {
         value: Some(row.value),
         addend: row.addend,
         at: 0x20_10e8,
@@ -172,10 +172,31 @@ fn judged_in(image: &ForeignImage<'_>, row: &Row, taken: &Taken<'_>) -> bool {
         got: row.got,
         thread: row.thread,
         thread_pointer: thread_pointer(image),
-    };
+    }
+}
+
+/// Whether a row's field is right in an image, where this memory is taken.
+fn judged_in(image: &ForeignImage<'_>, row: &Row, taken: &Taken<'_>) -> bool {
     match foreign_kind(row.kind) {
-        Some(kind) => is_right(image, taken, &asked, &kind),
+        Some(kind) => is_right(image, taken, &asked_of(image, row), &kind),
         None => false,
+    }
+}
+
+/// The address of the slot of a row's field.
+fn slot_in(image: &ForeignImage<'_>, row: &Row, taken: &Taken<'_>) -> Option<u64> {
+    match foreign_kind(row.kind) {
+        Some(kind) => asked_slot(image, taken, &asked_of(image, row), &kind),
+        None => None,
+    }
+}
+
+fn slot(alloc: Global, row: &Row, things: &[Thing]) -> Result<Option<u64>, AllocError> {
+    let bytes = image_with(alloc, &HEADER, &[HEADERS, CODE, BLOCK], &row.bytes)?;
+    let taken = Taken::new(alloc, things)?;
+    match ForeignImage::read(alloc, View::new(&bytes))? {
+        Some(image) => Ok(slot_in(&image, row, &taken)),
+        None => Ok(None),
     }
 }
 
@@ -213,6 +234,24 @@ fn other_fields_are_not(rt: HostRuntime) -> Result<(), Fail> {
 fn slots_in_sections_are_not_right(rt: HostRuntime) -> Result<(), Fail> {
     let told = judged(rt.alloc(), &GOTPCREL, &[thing_at(0x20_10e8, 9)])?;
     assert!(rt; !told);
+    Ok(())
+}
+
+/// Fields of GOTPCREL, GOT64 and GOTTPOFF have the slot at 0x2010f0, PC32 has none; nor has one whose slot holds another value,
+/// or lies where a section does.
+#[test]
+fn fields_tell_their_slots(rt: HostRuntime) -> Result<(), Fail> {
+    let section = [thing_at(0x20_10e8, 8)];
+    let mut all = true;
+    for k in [3, 5, 6] {
+        all = slot(rt.alloc(), &RIGHT[k], &section)? == Some(0x20_10f0) && all;
+    }
+    assert!(rt; all);
+    let mut none = slot(rt.alloc(), &GOTPCREL, &[thing_at(0x20_10e8, 9)])?.is_none();
+    for row in [&PC32, &WRONG[3], &WRONG[4]] {
+        none = slot(rt.alloc(), row, &section)?.is_none() && none;
+    }
+    assert!(rt; none);
     Ok(())
 }
 

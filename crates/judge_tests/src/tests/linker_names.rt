@@ -15,7 +15,7 @@ use elf_model::{
 use foreign_image::ForeignImage;
 use judge_model::{NameLine, NoteLine};
 use link_fields::{Addresses, LinkParts};
-use name_judge::are_names_right;
+use name_judge::{are_ends_behind_slots, are_names_right};
 use std::alloc::{AllocError, Global};
 use std::test::Fail;
 use thread_judge::are_low;
@@ -119,7 +119,7 @@ fn things(alloc: Global, first: u64, placed: &[Placed<'_>]) -> Result<Vec<Thing>
     Ok(things)
 }
 
-/// Whether lines of names are right, with a note of the linker's; None where the image isn't read.
+/// Whether lines of names are right, with notes of the linker's and slots; None where the image isn't read.
 fn are_right<'a>(
     alloc: Global,
     names: &Names<'_, 'a>,
@@ -128,6 +128,7 @@ fn are_right<'a>(
     image: &'a [u8],
     rows: &[NameLine],
     notes: &[NoteLine],
+    slots: &[u64],
 ) -> Result<Option<bool>, AllocError> {
     if !are_low(placed) {
         return Ok(None);
@@ -146,7 +147,8 @@ fn are_right<'a>(
                 rows,
                 got: GOT,
             };
-            Ok(Some(are_names_right(alloc, &parts, &things, notes)?))
+            let behind = are_ends_behind_slots(&parts, slots);
+            Ok(Some(are_names_right(alloc, &parts, &things, notes)? && behind))
         }
         None => Ok(None),
     }
@@ -160,21 +162,23 @@ fn told<'a>(
     image: &'a [u8],
     rows: &[NameLine],
     notes: &[NoteLine],
+    slots: &[u64],
 ) -> Result<Option<bool>, AllocError>
     requires { AreNumbered table objects.now }
 {
     let names = Names::new(alloc, objects, table)?;
     let pieces = pieces_of(alloc, objects)?;
     let placed = places(alloc, layout.places, &pieces)?;
-    are_right(alloc, &names, &pieces, &placed, image, rows, notes)
+    are_right(alloc, &names, &pieces, &placed, image, rows, notes, slots)
 }
 
-/// Whether lines of names are right in a layout, with notes of the linker's; None where the image isn't read.
-pub fn judged_in(
+/// Whether lines of names are right in a layout, with notes of the linker's and slots; None where the image isn't read.
+fn judged_by(
     alloc: Global,
     layout: &Layout,
     rows: &[NameLine],
     notes: &[NoteLine],
+    slots: &[u64],
 ) -> Result<Option<bool>, Fail> {
     let header = FileHeader {
         e_phnum: u16::try_from(layout.segments.len())?,
@@ -186,7 +190,17 @@ pub fn judged_in(
     let files = file(alloc, bytes)?;
     let words = words(alloc)?;
     let NamedObjects { objects, names } = loaded(alloc, &words, &files)?;
-    Ok(told(alloc, &objects, names, layout, &image, rows, notes)?)
+    Ok(told(alloc, &objects, names, layout, &image, rows, notes, slots)?)
+}
+
+/// The same without slots.
+pub fn judged_in(
+    alloc: Global,
+    layout: &Layout,
+    rows: &[NameLine],
+    notes: &[NoteLine],
+) -> Result<Option<bool>, Fail> {
+    judged_by(alloc, layout, rows, notes, &[])
 }
 
 fn judged(alloc: Global, rows: &[NameLine], notes: &[NoteLine]) -> Result<Option<bool>, Fail> {
@@ -271,5 +285,17 @@ fn the_end_is_behind_notes(rt: HostRuntime) -> Result<(), Fail> {
         }],
     )?;
     assert!(rt; (before, behind) == (Some(true), Some(false)));
+    Ok(())
+}
+
+/// Slots come before `_end` too, and each has eight bytes; other names don't ask for them.
+#[test]
+fn the_end_is_behind_slots(rt: HostRuntime) -> Result<(), Fail> {
+    let end = lines(rt.alloc(), &[("_end", 0x20_1107)])?;
+    let data = lines(rt.alloc(), &[("_edata", 0x20_10f0)])?;
+    let before = judged_by(rt.alloc(), &OWN, &end, &[], &[0x20_10f8, 0x20_10ff])?;
+    let behind = judged_by(rt.alloc(), &OWN, &end, &[], &[0x20_1100, 0x20_10f8])?;
+    let other = judged_by(rt.alloc(), &OWN, &data, &[], &[0x20_1100])?;
+    assert!(rt; (before, behind, other) == (Some(true), Some(false), Some(true)));
     Ok(())
 }
