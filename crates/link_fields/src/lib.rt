@@ -19,7 +19,7 @@ mod slots;
 
 pub use addresses::Addresses;
 pub use drops::Drops;
-pub use meanings::{Meant, symbol_meant};
+pub use meanings::{Meant, definition_of, symbol_meant};
 pub use own_rests::are_rests_right;
 pub use parts::LinkParts;
 pub use relocations::are_fields_right;

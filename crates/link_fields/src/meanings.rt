@@ -113,7 +113,7 @@ fn object_meaning<'a>(names: &Names<'_, 'a>, name: &[u8]) -> Option<Meaning<'a>>
 }
 
 /// What a name means: what objects define, or else what the linker does.
-fn definition_of<'a>(
+pub fn definition_of<'a>(
     names: &Names<'_, 'a>,
     outputs: &Outputs<'_, 'a>,
     name: &'a [u8],

@@ -4,4 +4,4 @@
 
 mod sections;
 
-pub use sections::{are_sections_true, has_tables, sections_of};
+pub use sections::{are_sections_true, has_tables, is_in_memory, sections_of};

@@ -123,7 +123,7 @@ fn is_mapped_by_any(h: &SectionHeader, segments: &[ProgramHeader]) -> bool
 }
 
 /// Whether a section takes up memory: the zeros of thread-local storage don't.
-fn is_in_memory(h: &SectionHeader) -> bool
+pub fn is_in_memory(h: &SectionHeader) -> bool
     ensures { result ≡ is_in_memory h.now }
 {
     h.is_alloc() && !(h.is_thread_local() && h.is_nobits())
