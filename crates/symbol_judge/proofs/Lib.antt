@@ -1,0 +1,10 @@
+mod EntryLaws
+mod IndexSteps
+mod LocalLaws
+mod LocalSteps
+mod NameSteps
+mod NamedLaws
+mod PartLaws
+mod StretchLaws
+mod TableLaws
+mod ThereLaws
