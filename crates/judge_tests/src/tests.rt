@@ -16,5 +16,6 @@ mod places;
 mod sample_objects;
 mod section_headers;
 mod section_runs;
+mod symbol_tables;
 mod thread_blocks;
 mod words_of_others;
