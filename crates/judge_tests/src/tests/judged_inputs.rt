@@ -170,16 +170,11 @@ fn relocated(alloc: Global, first: Place, second: Place) -> Result<Vec<u8>, Fail
 }
 
 /// Whether the fields of these relocations are inside, given the lines of sections that are left out.
-fn are_inside(
-    alloc: Global,
-    first: Place,
-    second: Place,
-    drops: &[DropLine],
-) -> Result<bool, Fail> {
+fn are_inside(alloc: Global, first: Place, second: Place, drops: &Drops<'_>) -> Result<bool, Fail> {
     let files = file(alloc, relocated(alloc, first, second)?)?;
     let words = words(alloc)?;
     let named = loaded(alloc, &words, &files)?;
-    Ok(are_fields_inside(&named.objects, &Drops::new(drops)))
+    Ok(are_fields_inside(&named.objects, drops))
 }
 
 /// R_X86_64_64 (1) has eight bytes, R_X86_64_PC32 (2) and R_X86_64_PLT32 (4) have four, R_X86_64_8 (14) has one, and 200 is no type.
@@ -190,11 +185,11 @@ static BEYOND: [Place; 6] = [(1, 1), (5, 2), (8, 4), (8, 14), (9, 200), (u64::MA
 #[test]
 fn fields_lie_inside_their_sections(rt: HostRuntime) -> Result<(), Fail> {
     for place in &INSIDE {
-        assert!(rt; are_inside(rt.alloc(), *place, (0, 14), &[])?);
+        assert!(rt; are_inside(rt.alloc(), *place, (0, 14), &Drops::new(&[]))?);
     }
     for place in &BEYOND {
-        assert!(rt; !are_inside(rt.alloc(), *place, (0, 14), &[])?);
-        assert!(rt; !are_inside(rt.alloc(), (0, 14), *place, &[])?);
+        assert!(rt; !are_inside(rt.alloc(), *place, (0, 14), &Drops::new(&[]))?);
+        assert!(rt; !are_inside(rt.alloc(), (0, 14), *place, &Drops::new(&[]))?);
     }
     Ok(())
 }
@@ -211,17 +206,17 @@ const OTHER: DropLine = DropLine {
 
 #[test]
 fn fields_of_sections_that_are_left_out_may_be_anywhere(rt: HostRuntime) -> Result<(), Fail> {
-    assert!(rt; are_inside(rt.alloc(), (9, 1), (9, 1), &[CODE])?);
-    assert!(rt; !are_inside(rt.alloc(), (9, 1), (0, 14), &[OTHER])?);
+    assert!(rt; are_inside(rt.alloc(), (9, 1), (9, 1), &Drops::new(&[CODE]))?);
+    assert!(rt; !are_inside(rt.alloc(), (9, 1), (0, 14), &Drops::new(&[OTHER]))?);
     Ok(())
 }
 
 /// Whether the fields of these relocations are apart.
-fn are_apart(alloc: Global, pair: (Place, Place), drops: &[DropLine]) -> Result<bool, Fail> {
+fn are_apart(alloc: Global, pair: (Place, Place), drops: &Drops<'_>) -> Result<bool, Fail> {
     let files = file(alloc, relocated(alloc, pair.0, pair.1)?)?;
     let words = words(alloc)?;
     let named = loaded(alloc, &words, &files)?;
-    Ok(are_fields_apart(alloc, &named.objects, &Drops::new(drops))?)
+    Ok(are_fields_apart(alloc, &named.objects, drops)?)
 }
 
 /// Side by side, in either order; those of no type have no bytes.
@@ -244,12 +239,12 @@ static OVERLAPPING: [(Place, Place); 5] = [
 #[test]
 fn no_byte_lies_in_two_fields(rt: HostRuntime) -> Result<(), Fail> {
     for pair in &APART {
-        assert!(rt; are_apart(rt.alloc(), *pair, &[])?);
+        assert!(rt; are_apart(rt.alloc(), *pair, &Drops::new(&[]))?);
     }
     for pair in &OVERLAPPING {
-        assert!(rt; !are_apart(rt.alloc(), *pair, &[])?);
-        assert!(rt; !are_apart(rt.alloc(), *pair, &[OTHER])?);
-        assert!(rt; are_apart(rt.alloc(), *pair, &[CODE])?);
+        assert!(rt; !are_apart(rt.alloc(), *pair, &Drops::new(&[]))?);
+        assert!(rt; !are_apart(rt.alloc(), *pair, &Drops::new(&[OTHER]))?);
+        assert!(rt; are_apart(rt.alloc(), *pair, &Drops::new(&[CODE]))?);
     }
     Ok(())
 }

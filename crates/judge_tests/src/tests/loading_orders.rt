@@ -476,8 +476,9 @@ fn other_orders_are_not(rt: HostRuntime) -> Result<(), Fail> {
 fn numbered(alloc: Global, first: u64, second: u64) -> Result<bool, Fail> {
     let files = files_of(alloc)?;
     let mut rows = lines_of(alloc, &[Line(0, "a.o", 0), Line(1, "b.o", 0)])?;
-    rows[0].object = first;
-    rows[1].object = second;
+    for (row, number) in rows.iter_mut().zip([first, second]) {
+        row.object = number;
+    }
     is_order(alloc, &files, "a.o b.o", &rows, None)
 }
 
@@ -490,20 +491,22 @@ fn lines_have_the_numbers_of_their_objects(rt: HostRuntime) -> Result<(), Fail> 
 }
 
 /// Whether the files of words can't be read.
-fn is_unread(alloc: Global, words: &str) -> Result<bool, Fail> {
-    let files = files_of(alloc)?;
+fn is_unread(alloc: Global, files: &[InputFile], words: &str) -> Result<bool, Fail> {
     let words = words_of(alloc, words)?;
     let plan = read_words(alloc, &words)?;
-    match load_in_order(alloc, &plan, &files, &[], None) {
+    let rows = lines_of(alloc, &[])?;
+    match load_in_order(alloc, &plan, files, &rows, None) {
+        Ok(_) => Ok(false),
         Err(OrderFault::Unreadable) => Ok(true),
-        _ => Ok(false),
+        Err(_) => Ok(false),
     }
 }
 
 #[test]
 fn files_that_are_not_there_are_not_read(rt: HostRuntime) -> Result<(), Fail> {
-    assert!(rt; is_unread(rt.alloc(), "e.o")?);
-    assert!(rt; is_unread(rt.alloc(), "a.o b.a")?);
-    assert!(rt; !is_unread(rt.alloc(), "a.o b.o")?);
+    let files = files_of(rt.alloc())?;
+    assert!(rt; is_unread(rt.alloc(), &files, "e.o")?);
+    assert!(rt; is_unread(rt.alloc(), &files, "a.o b.a")?);
+    assert!(rt; !is_unread(rt.alloc(), &files, "a.o b.o")?);
     Ok(())
 }
