@@ -2,3 +2,4 @@ pub mod ApartLaws
 pub mod CompiledLaws
 pub mod InsideLaws
 pub mod SetLaws
+pub mod UniqueLaws

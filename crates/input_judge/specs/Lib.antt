@@ -3,3 +3,4 @@ pub mod Compiled
 pub mod Edited
 pub mod Inside
 pub mod SectionSets
+pub mod Unique

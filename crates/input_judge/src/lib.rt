@@ -1,5 +1,6 @@
-//! Whether the inputs of a link leave nothing open, so that it can be judged: no object for link-time optimization, whole arrays
-//! of functions, fields inside their sections and apart, and nothing that linkers edit (System V gABI 4; AMD64 psABI 4.4).
+//! Whether the inputs of a link leave nothing open, so that it can be judged: no object for link-time optimization, one strong
+//! definition a name, whole arrays of functions, fields inside their sections and apart, and nothing that linkers edit
+//! (System V gABI 4; AMD64 psABI 4.4).
 //!
 //! Whether common symbols are sound is told by `check_link::Names`.
 #![tactic(auto)]
@@ -10,9 +11,11 @@ mod edited;
 mod fields_apart;
 mod fields_inside;
 mod section_sets;
+mod unique;
 
 pub use arrays::are_arrays_whole;
 pub use compiled::are_compiled;
 pub use edited::are_unedited;
 pub use fields_apart::are_fields_apart;
 pub use fields_inside::are_fields_inside;
+pub use unique::are_unique;
