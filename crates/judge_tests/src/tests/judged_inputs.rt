@@ -1,12 +1,15 @@
 //! Inputs that leave open what a right link of them is, and such that don't: objects for link-time optimization, arrays that aren't
 //! whole (System V gABI 4, .init_array), what linkers edit (SHF_MERGE, .eh_frame), fields beyond their sections (AMD64 psABI 4.4).
+ghost use Rattle.check_load.specs.Numbered.{AreNumbered};
+
 use crate::tests::sample_objects::{Named, Part, file, loaded, object, words};
-use check_link::Piece;
+use check_link::{Names, Piece};
+use check_load::NamedObjects;
 use elf_model::{
     DropLine, PlaceLine, SHF_ALLOC, SHF_EXECINSTR, SHF_MERGE, SHT_PROGBITS, SHT_RELA, SectionHeader,
 };
 use input_judge::{
-    are_arrays_whole, are_compiled, are_fields_apart, are_fields_inside, are_unedited,
+    are_arrays_whole, are_compiled, are_fields_apart, are_fields_inside, are_unedited, are_unique,
 };
 use link_fields::Drops;
 use std::alloc::Global;
@@ -30,6 +33,67 @@ fn objects_of_compilers_own_code_are_told(rt: HostRuntime) -> Result<(), Fail> {
     assert!(rt; !is_compiled(rt.alloc(), ".gnu.lto_main.1")?);
     assert!(rt; is_compiled(rt.alloc(), ".gnu.lto")?);
     assert!(rt; is_compiled(rt.alloc(), ".comment")?);
+    Ok(())
+}
+
+/// GLOBAL and WEAK functions, a common symbol and an absolute one, a LOCAL one, and one that is asked for.
+const F: Named = Named("f", 0x12, 1, 0);
+
+const G: Named = Named("g", 0x12, 1, 0);
+
+const WEAK_F: Named = Named("f", 0x22, 1, 4);
+
+const COMMON_F: Named = Named("f", 0x11, 0xfff2, 8);
+
+const ABSOLUTE_F: Named = Named("f", 0x10, 0xfff1, 4);
+
+const LOCAL_F: Named = Named("f", 0x02, 1, 0);
+
+const ASKED_F: Named = Named("f", 0x10, 0, 0);
+
+/// Symbols of objects of which no name has two strong definitions, and such of which one has.
+static SINGLE: [&[Named]; 6] = [
+    &[F, G],
+    &[F, WEAK_F],
+    &[WEAK_F, WEAK_F, G],
+    &[COMMON_F, COMMON_F, F],
+    &[LOCAL_F, F],
+    &[ASKED_F, F, ASKED_F],
+];
+
+static DOUBLE: [&[Named]; 4] = [
+    &[F, G, F],
+    &[WEAK_F, G, G],
+    &[F, ABSOLUTE_F],
+    &[COMMON_F, F, ABSOLUTE_F],
+];
+
+/// Whether no name has two strong definitions in objects.
+fn has_single_names(alloc: Global, named: NamedObjects<'_>) -> Result<bool, Fail>
+    requires { AreNumbered named.names named.objects.items }
+{
+    let NamedObjects { objects, names } = named;
+    let names = Names::new(alloc, &objects, names)?;
+    Ok(are_unique(&names))
+}
+
+/// Whether no name has two strong definitions in an object that has these symbols.
+fn is_unique(alloc: Global, symbols: &[Named]) -> Result<bool, Fail> {
+    let bytes = object(alloc, &[TEXT], symbols)?;
+    let files = file(alloc, bytes)?;
+    let words = words(alloc)?;
+    let named = loaded(alloc, &words, &files)?;
+    has_single_names(alloc, named)
+}
+
+#[test]
+fn names_have_one_strong_definition(rt: HostRuntime) -> Result<(), Fail> {
+    for symbols in &SINGLE {
+        assert!(rt; is_unique(rt.alloc(), symbols)?);
+    }
+    for symbols in &DOUBLE {
+        assert!(rt; !is_unique(rt.alloc(), symbols)?);
+    }
     Ok(())
 }
 
