@@ -1,5 +1,6 @@
-//! Orders in which a link's objects may be loaded, and such as no linker comes to (ld(1): items in the command's order, members
-//! of archives as they are asked for, -u, --start-group and --whole-archive).
+//! Orders in which a link's objects may be loaded, and such as loading never comes to (ld(1): items in the command's order,
+//! members of archives as they are asked for, -u, --start-group and --whole-archive). GNU ld 2.40, gold 1.16 and LLD 14 load in orders
+//! of the first kind; mold 1.10 lays the members of an archive out in the archive's order, whichever of them asks for which.
 use crate::tests::sample_objects::{Named, Part, object};
 use command::read_words;
 use elf_model::{InputFile, NameSeed, ObjectLine, SHF_ALLOC, SHF_EXECINSTR, SHT_PROGBITS};
