@@ -237,21 +237,38 @@ fn slots_in_sections_are_not_right(rt: HostRuntime) -> Result<(), Fail> {
     Ok(())
 }
 
-/// Fields of GOTPCREL, GOT64 and GOTTPOFF have the slot at 0x2010f0, PC32 has none; nor has one whose slot holds another value,
-/// or lies where a section does.
+static WITH_SLOTS: [Row; 2] = [GOTPCREL, GOTTPOFF];
+
+/// One without a slot, and two whose slots hold another value.
+static WITHOUT_SLOTS: [Row; 3] = [
+    PC32,
+    Row {
+        value: 0x20_1235,
+        ..GOTPCREL
+    },
+    Row {
+        value: 0x1_0020_1234,
+        ..GOTPCREL
+    },
+];
+
 #[test]
 fn fields_tell_their_slots(rt: HostRuntime) -> Result<(), Fail> {
-    let section = [thing_at(0x20_10e8, 8)];
     let mut all = true;
-    for k in [3, 5, 6] {
-        all = slot(rt.alloc(), &RIGHT[k], &section)? == Some(0x20_10f0) && all;
+    for row in &WITH_SLOTS {
+        all = slot(rt.alloc(), row, &[thing_at(0x20_10e8, 8)])? == Some(0x20_10f0) && all;
     }
     assert!(rt; all);
-    let mut none = slot(rt.alloc(), &GOTPCREL, &[thing_at(0x20_10e8, 9)])?.is_none();
-    for row in [&PC32, &WRONG[3], &WRONG[4]] {
-        none = slot(rt.alloc(), row, &section)?.is_none() && none;
+    Ok(())
+}
+
+#[test]
+fn other_fields_tell_none(rt: HostRuntime) -> Result<(), Fail> {
+    let mut some = slot(rt.alloc(), &GOTPCREL, &[thing_at(0x20_10e8, 9)])?.is_some();
+    for row in &WITHOUT_SLOTS {
+        some = slot(rt.alloc(), row, &[thing_at(0x20_10e8, 8)])?.is_some() || some;
     }
-    assert!(rt; none);
+    assert!(rt; !some);
     Ok(())
 }
 
