@@ -22,10 +22,10 @@ use Rattle.judge_model.specs.Means as means
 use Rattle.judge_model.specs.Plans.{Script, is_match}
 use Rattle.std.specs.List.{list_any}
 use Rattle.judge_model.specs.Tables as tables
-use Rattle.judge_model.specs.Tables.{HasBindingOf, HasTypeOf, IsEntryOf, IsEntryRight, IsFile, IsGlobalEntry, IsLocalEntry, IsLocalOf, IsMissing, IsOfSection, IsScriptEntry, IsSection, StandsRight, image_sections, name_of_entry, section_count, shn_xindex, strings_of}
+use Rattle.judge_model.specs.Tables.{HasBindingOf, HasTypeOf, IsEntryOf, IsEntryRight, IsFile, IsGlobalEntry, IsLocalEntry, IsLocalOf, IsMade, IsMissing, IsOfSection, IsScriptEntry, IsSection, StandsRight, image_sections, name_of_entry, section_count, shn_xindex, strings_of}
 use Rattle.link_fields.specs.Parts.{Parts, parts_of}
 use Rattle.link_fields.specs.Parts as words
-use Rattle.symbol_judge.specs.Entries.{IsLocalEntryBy, IsMissingBy, IsRightBy, IsRightNamed, IsSectionBy, named_by}
+use Rattle.symbol_judge.specs.Entries.{IsLocalEntryBy, IsMadeBy, IsMissingBy, IsRightBy, IsRightNamed, IsSectionBy, named_by}
 use Rattle.symbol_judge.specs.Indexes.{wanted_at}
 use Rattle.symbol_judge.specs.Locals.{IsLocalBy, locals_in}
 use Rattle.symbol_judge.specs.Wanted.{Fits, HasBinding, HasKind, IsOfSectionIn, StandsIn, binding_of, takes_no_memory, type_of, wanted_of}
@@ -228,20 +228,41 @@ module _ (l : ForeignLink) (e : entry.Symbol) where
               (entry_of (parts_of l) names hs name e number number_is (all_symbols (objects_of l)) table same of);
         }
 
+    -- an entry of a name that the linker made of itself
+    made_to : IsMadeBy named e → IsMade l name e
+    made_to m = record {
+      known = m.known;
+      none = none_of (means.object_or_linker l name) m.none;
+      binding_ = m.binding_;
+      type_ = m.type_;
+      size = m.size;
+    }
+
+    made_from : IsMade l name e → IsMadeBy named e
+    made_from m = record {
+      known = m.known;
+      none = ap (λ (o : Option Meaning). is_some o) m.none;
+      binding_ = m.binding_;
+      type_ = m.type_;
+      size = m.size;
+    }
+
     right_to : IsRightBy hs table named e → IsEntryRight l e
     right_to (inl fits) = inl (global_to (means.object_or_linker l name) fits)
     right_to (inr (inl local)) = inr (inl (local_entry_to local))
     right_to (inr (inr (inl missing))) = inr (inr (inr (inl (missing_to name missing))))
-    right_to (inr (inr (inr (inl file)))) = inr (inr (inr (inr (inl file))))
-    right_to (inr (inr (inr (inr section)))) = inr (inr (inr (inr (inr (section_to section)))))
+    right_to (inr (inr (inr (inl made)))) = inr (inr (inr (inr (inl (made_to made)))))
+    right_to (inr (inr (inr (inr (inl file))))) = inr (inr (inr (inr (inr (inl file)))))
+    right_to (inr (inr (inr (inr (inr section))))) = inr (inr (inr (inr (inr (inr (section_to section))))))
 
     right_from : IsEntryRight l e → IsRightBy hs table named e
     right_from (inl global) = inl (global_from (means.object_or_linker l name) global)
     right_from (inr (inl local)) = inr (inl (local_entry_from local))
     right_from (inr (inr (inl script))) = absurd (true≢false (sym script.0 ∙ no_script none name))
     right_from (inr (inr (inr (inl missing)))) = inr (inr (inl (missing_from name missing)))
-    right_from (inr (inr (inr (inr (inl file))))) = inr (inr (inr (inl file)))
-    right_from (inr (inr (inr (inr (inr section))))) = inr (inr (inr (inr (section_from section))))
+    right_from (inr (inr (inr (inr (inl made))))) = inr (inr (inr (inl (made_from made))))
+    right_from (inr (inr (inr (inr (inr (inl file)))))) = inr (inr (inr (inr (inl file))))
+    right_from (inr (inr (inr (inr (inr (inr section)))))) = inr (inr (inr (inr (inr (section_from section)))))
 
 -- All entries but the first, in any order.
 module _ (l : ForeignLink) (p : Parts) (hs : List SectionHeader) (strings : List ℕ) (names : List (List ℕ)) (table : List Local) (rest others : List entry.Symbol) (parts : parts_of l ≡ p) (none : p.script ≡ None) (sections : image_sections l.image ≡ hs) (strings_are : strings_of l.image (image_sections l.image) ≡ strings) (order : IsPermutation rest others) (among : (e : entry.Symbol) → Contains others e → is_among names (text strings e.st_name) ≡ true) (same : IsPermutation (locals_in p names (all_symbols p.objects)) table) where

@@ -4,10 +4,10 @@ use Rattle.std.specs.List.{position, slice_get}
 use Rattle.std.specs.Str.{bytes_eq}
 use Rattle.byteview.specs.Numbers.{text}
 use Rattle.elf_model.specs.Link.Resolution.{binding, is_undefined, is_weak, symbol_type}
-use Rattle.elf_model.specs.declared.constants.TheConstants.{STB_LOCAL, STT_SECTION}
+use Rattle.elf_model.specs.declared.constants.TheConstants.{STB_LOCAL, STT_NOTYPE, STT_SECTION}
 use Rattle.elf_model.specs.declared.records.SectionHeader.{SectionHeader}
 use Rattle.elf_model.specs.declared.records.Symbol.{Symbol}
-use Rattle.judge_model.specs.Tables.{IsFile}
+use Rattle.judge_model.specs.Tables.{IsFile, is_made_name}
 use Rattle.link_fields.specs.Parts.{Parts, object_or_linker}
 use Rattle.symbol_judge.specs.Indexes.{wanted_by}
 use Rattle.symbol_judge.specs.Locals.{IsLocalBy}
@@ -22,6 +22,7 @@ named_by p strings names offset = record {
   number = position (bytes_eq (text strings offset)) names;
   defined = is_some (object_or_linker p.objects p.pieces (text strings offset));
   wanted = wanted_by p (text strings offset);
+  made = is_made_name (text strings offset);
 }
 
 -- an entry of what nothing defines, and one of a section
@@ -30,6 +31,14 @@ pub record IsMissingBy (defined : Bool) (e : Symbol) : Type 0 where
   pub value : e.st_value ≡ 0
   pub weak : is_weak e ≡ true
   pub none : defined ≡ false
+
+-- an entry of a name that the linker made of itself
+pub record IsMadeBy (named : Named) (e : Symbol) : Type 0 where
+  pub known : named.made ≡ true
+  pub none : named.defined ≡ false
+  pub binding_ : binding e ≡ STB_LOCAL
+  pub type_ : symbol_type e ≡ STT_NOTYPE
+  pub size : e.st_size ≡ 0
 
 abbrev pub BeginsAt : ℕ → SectionHeader → Type 0
 BeginsAt v h = v ≡ h.sh_addr
@@ -49,6 +58,7 @@ IsRightBy hs table named e =
     IsSomeAnd named.wanted (Fits hs e)
     ⊎ IsLocalEntryBy hs table named e
     ⊎ IsMissingBy named.defined e
+    ⊎ IsMadeBy named e
     ⊎ IsFile e
     ⊎ IsSectionBy hs e
 

@@ -1,25 +1,27 @@
 //! Whether the entries of a symbol table are right, by what their names mean.
 ghost use Rattle.std.specs.Prelude.{◌≡◌, ◌↔◌, All, IsSomeAnd, IsTrue};
-ghost use Rattle.symbol_judge.specs.Entries.{IsLocalEntryBy, IsRightBy, IsRightNamed, named_by};
+ghost use Rattle.symbol_judge.specs.Entries.{IsLocalEntryBy, IsMadeBy, IsRightBy, IsRightNamed, named_by};
 ghost use Rattle.symbol_judge.specs.Wanted.{Fits};
 
 use crate::entry_names::name_at;
 use crate::locals::Locals;
+use crate::made_names::is_made_name;
 use crate::meanings::Meanings;
 use crate::simple_entries::{is_file, is_missing, is_section};
 use crate::wanted::{Wanted, fits};
 use byteview::View;
 use check_load::NameTable;
-use elf_model::{SectionHeader, Symbol};
+use elf_model::{STT_NOTYPE, SectionHeader, Symbol};
 
 /// What is known of the name at an offset of a string table: its number among the names of entries, whether objects or the linker
-/// define it, and what its entry has to be, where the image has what it means.
+/// define it, what its entry has to be, where the image has what it means, and whether it is one that linkers make of themselves.
 #[derive(Clone, Copy, Debug)]
 pub struct Named {
     pub offset: u32,
     pub number: Option<usize>,
     pub defined: bool,
     pub wanted: Option<Wanted>,
+    pub made: bool,
 }
 
 /// What is known of the name at an offset.
@@ -33,18 +35,21 @@ fn named_at<'a>(
 {
     let name = name_at(strings, offset);
     let number = names.find(name);
+    let made = is_made_name(name);
     match meanings.definition(name) {
         Some(meaning) => Named {
             offset,
             number,
             defined: true,
             wanted: meanings.wanted_at(&meaning),
+            made,
         },
         None => Named {
             offset,
             number,
             defined: false,
             wanted: None,
+            made,
         },
     }
 }
@@ -89,6 +94,16 @@ fn fits_local(sections: &[SectionHeader], locals: &Locals, named: &Named, entry:
     }
 }
 
+/// Whether an entry is of a name that the linker made of itself, and nothing defines: LOCAL, without a type and a size.
+fn is_made(named: &Named, entry: &Symbol) -> bool
+    ensures { IsTrue result ↔ IsMadeBy named.now entry.now }
+{
+    if !named.made || named.defined || !entry.is_local() {
+        return false;
+    }
+    entry.symbol_type() == STT_NOTYPE && entry.st_size == 0
+}
+
 /// Whether an entry is right, by what is known of its name.
 fn is_right_by(sections: &[SectionHeader], locals: &Locals, named: &Named, entry: &Symbol) -> bool
     ensures { IsTrue result ↔ IsRightBy sections.now locals.now named.now entry.now }
@@ -99,7 +114,10 @@ fn is_right_by(sections: &[SectionHeader], locals: &Locals, named: &Named, entry
     if is_file(entry) || is_section(sections, entry) {
         return true;
     }
-    is_missing(named.defined, entry) || fits_local(sections, locals, named, entry)
+    if is_missing(named.defined, entry) || is_made(named, entry) {
+        return true;
+    }
+    fits_local(sections, locals, named, entry)
 }
 
 /// Whether entries are right. Where they stand by the offsets of their names, each name is looked up once.

@@ -8,6 +8,7 @@
 mod entries;
 mod entry_names;
 mod locals;
+mod made_names;
 mod meanings;
 mod name_values;
 mod piece_sizes;
