@@ -1,0 +1,2 @@
+pub mod Requirements
+pub mod Starts

@@ -1,0 +1,84 @@
+-- What a judgement says of a link.
+use Rattle.std.specs.Prelude.{◌≡◌, ◌⊎◌, ℕ, ◌<◌, List, true, Any}
+use Rattle.elf_model.specs.Image.MemoryImage.{program_headers}
+use Rattle.elf_model.specs.Inputs.Files.{File}
+use Rattle.judge_model.specs.Certificates.{CertificateRecord, IsInOrder}
+use Rattle.judge_model.specs.Headers.{IsProgram, pt_gnu_eh_frame}
+use Rattle.judge_model.specs.Loaded.{AreReadable}
+use Rattle.judge_model.specs.Links.{ForeignLink}
+use Rattle.judge_model.specs.Plans.{ForeignPlan}
+use Rattle.judge_model.specs.RightForeign.{Holds, IsJudged, IsShown}
+use Rattle.judge_model.specs.Words.{IsAsked}
+use Rattle.judge_model.specs.declared.judgement.Requirement.{Requirement}
+use Rattle.judge_model.specs.declared.judgement.Requirement.TheVariants.{F1, F2, F3, F4, F5, F6, F7, F8, F9, F10, F11, F12, F13}
+use Rattle.link_judge.specs.Inputs.{AreArraysWhole, AreFieldsSound, AreObjectsSound, AreUnedited}
+use Rattle.link_judge.specs.declared.judgement.Judgement.{Judgement}
+use Rattle.link_judge.specs.declared.judgement.Judgement.TheVariants.{No, NotJudged, Yes}
+use Rattle.link_judge.specs.declared.judgement.Reason.{Reason}
+use Rattle.link_judge.specs.declared.judgement.Reason.TheVariants as reason
+
+abbrev pub requirement_number : Requirement → ℕ
+requirement_number F1 = 1
+requirement_number F2 = 2
+requirement_number F3 = 3
+requirement_number F4 = 4
+requirement_number F5 = 5
+requirement_number F6 = 6
+requirement_number F7 = 7
+requirement_number F8 = 8
+requirement_number F9 = 9
+requirement_number F10 = 10
+requirement_number F11 = 11
+requirement_number F12 = 12
+requirement_number F13 = 13
+
+-- all requirements with a smaller number hold
+abbrev pub HoldsBefore : Requirement → ForeignLink → Type 0
+HoldsBefore f l = (g : Requirement) → requirement_number g < requirement_number f → Holds g l
+
+-- A requirement is the first one that fails of a link that is judged.
+pub record IsFirst (f : Requirement) (l : ForeignLink) : Type 0 where
+  pub judged : IsJudged l
+  pub before : HoldsBefore f l
+
+-- A requirement that fails is told where it is the first one; F1 is also told of links that aren't judged, F3 where the lines of the
+-- certificate aren't in order, and F12 where the image is no program.
+abbrev pub IsTold : Requirement → ForeignLink → Type 0
+IsTold f l = IsFirst f l ⊎ (f ≡ F1) ⊎ ((f ≡ F3) × (¬ IsInOrder l.certificate)) ⊎ ((f ≡ F12) × (¬ IsProgram l.image))
+
+pub record Fails (f : Requirement) (l : ForeignLink) : Type 0 where
+  pub fails : ¬ Holds f l
+  pub told : IsTold f l
+
+-- the image has a table of frames
+abbrev pub HasFrameTable : List ℕ → Type 0
+HasFrameTable image = Any (λ h. h.p_type ≡ pt_gnu_eh_frame) (program_headers image)
+
+-- Why a link isn't judged: its words ask for --gc-sections; or a part of IsJudged doesn't hold; or fields or bytes aren't right,
+-- which may be as the linker rewrote code, or gaps aren't, where there is a table of frames: no rule says yet whether that is
+-- right.
+abbrev pub IsReason : Reason → ForeignLink → Type 0
+IsReason reason.Unused l = l.plan.collects ≡ true
+IsReason reason.Unreadable l = ¬ AreReadable l.files l.plan.plan
+IsReason reason.Objects l = ¬ AreObjectsSound l
+IsReason reason.Arrays l = ¬ AreArraysWhole l
+IsReason reason.Edited l = ¬ AreUnedited l
+IsReason reason.Fields l = ¬ AreFieldsSound l
+IsReason reason.Code l = (¬ Holds F5 l) ⊎ (¬ Holds F7 l)
+IsReason reason.Frames l = (¬ Holds F10 l) × HasFrameTable l.image
+
+-- a yes: the link is judged, and all requirements hold
+abbrev pub Judges : Judgement → ForeignLink → Type 0
+Judges Yes l = IsShown l
+Judges (No f) l = Fails f l
+Judges (NotJudged r) l = IsReason r l
+
+-- the link of files by a plan, which has an image, with a certificate
+abbrev pub link_of : List File → ForeignPlan → List ℕ → CertificateRecord → ForeignLink
+link_of files plan image certificate = record { plan = plan; files = files; image = image; certificate = certificate }
+
+-- it is what a judgement says of the link by the plan that words ask for
+pub record IsJudgedBy (words : List (List ℕ)) (files : List File) (image : List ℕ) (certificate : CertificateRecord) (j : Judgement) : Type 0 where
+  pub plan : ForeignPlan
+  pub asked : IsAsked words plan
+  pub judges : Judges j (link_of files plan image certificate)

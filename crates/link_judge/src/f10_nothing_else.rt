@@ -1,0 +1,68 @@
+//! F10: memory has nothing else: the linker's own notes are right, no slot is behind the end of all, and gaps have fill.
+ghost use Rattle.std.specs.Prelude.{◌↔◌, IfOk, IsTrue};
+ghost use Rattle.judge_model.specs.Links.{sections_of};
+ghost use Rattle.judge_model.specs.Notes.{AreNotesRight};
+ghost use Rattle.judge_model.specs.Fill.{IsFilled};
+ghost use Rattle.judge_model.specs.RightForeign.{Holds};
+ghost use Rattle.judge_model.specs.declared.judgement.Requirement.TheVariants as requirement;
+ghost use Rattle.link_fields.specs.Parts.{AreTaken};
+ghost use Rattle.run_judge.specs.Pairs.{AreRunPairs};
+
+use gap_judge::are_gaps_filled;
+use judge_stages::{BoundClaim, PlacedClaim};
+use link_fields::slots_of;
+use memory_judge::Taken;
+use name_judge::are_ends_behind_slots;
+use note_judge::are_notes_right;
+use run_judge::{RunPair, run_gaps};
+use std::alloc::{AllocError, Global};
+
+/// Whether the notes that the linker made are right.
+fn has_right_notes(placed: &PlacedClaim<'_, '_>) -> bool
+    ensures { IsTrue result ↔ AreNotesRight placed.now }
+{
+    let claim = placed.claim();
+    let objects = placed.names().objects();
+    let notes = &claim.certificate.notes;
+    are_notes_right(placed.image(), objects, notes, claim.wider.features)
+}
+
+/// Whether the end of all is behind the slots, and gaps have fill, given where no slot may be, and the neighbours of runs.
+fn is_filled(
+    alloc: Global,
+    bound: &BoundClaim<'_, '_, '_>,
+    taken: &Taken<'_>,
+    pairs: &[RunPair<'_>],
+) -> Result<bool, AllocError>
+    requires taken { AreTaken bound.now taken.now }
+    requires pairs { AreRunPairs (sections_of bound.now) pairs.now }
+    ensures { IfOk result (λ b. IsTrue b ↔ IsFilled bound.now) }
+{
+    let placed = bound.placed();
+    let slots = slots_of(alloc, bound.parts(), taken, placed.drops())?;
+    if !are_ends_behind_slots(bound.parts(), &slots) {
+        return Ok(false);
+    }
+    let gaps = run_gaps(alloc, pairs)?;
+    if !are_gaps_filled(alloc, placed.image(), placed.things(), &slots, &gaps)? {
+        return Ok(false);
+    }
+    Ok(true)
+}
+
+/// Whether a link has nothing else, given where no slot may be, and the neighbours of runs.
+pub fn holds(
+    alloc: Global,
+    bound: &BoundClaim<'_, '_, '_>,
+    taken: &Taken<'_>,
+    pairs: &[RunPair<'_>],
+) -> Result<bool, AllocError>
+    requires taken { AreTaken bound.now taken.now }
+    requires pairs { AreRunPairs (sections_of bound.now) pairs.now }
+    ensures { IfOk result (λ b. IsTrue b ↔ Holds requirement.F10 bound.now) }
+{
+    if !has_right_notes(bound.placed()) {
+        return Ok(false);
+    }
+    is_filled(alloc, bound, taken, pairs)
+}

@@ -1,0 +1,35 @@
+//! What a judge answers: yes, or the first requirement that isn't met; or why a link isn't judged.
+
+use judge_model::Requirement;
+
+/// Why a link isn't judged.
+#[derive(Clone, Copy, Debug, PartialEq, Eq)]
+pub enum Reason {
+    /// Its words ask for --gc-sections.
+    Unused,
+    /// A file is missing, or an archive or an object can't be read.
+    Unreadable,
+    /// Objects for link-time optimization, two strong definitions of a name, or a common symbol that isn't sound.
+    Objects,
+    /// An array of functions of which a section isn't aligned to 8, or has no whole entries.
+    Arrays,
+    /// Strings, constants or frames that its linker edited.
+    Edited,
+    /// Fields that overlap, or leave their section.
+    Fields,
+    /// Fields or bytes aren't right, but its linker may have rewritten code.
+    Code,
+    /// Gaps aren't filled as they should be, but its linker made a table of frames.
+    Frames,
+}
+
+/// What a judge answers.
+#[derive(Clone, Copy, Debug, PartialEq, Eq)]
+pub enum Judgement {
+    /// The image is a right link.
+    Yes,
+    /// It is none by its certificate: the requirement that isn't met.
+    No(Requirement),
+    /// It isn't judged.
+    NotJudged(Reason),
+}
