@@ -7,7 +7,7 @@ use Rattle.elf_model.specs.Image.MemoryImage.{loads_in, program_header_at, progr
 use Rattle.elf_model.specs.Inputs.Records.{file_header}
 use Rattle.elf_model.specs.declared.records.FileHeader.{FileHeader}
 use Rattle.elf_model.specs.declared.records.ProgramHeader.{ProgramHeader}
-use Rattle.judge_model.specs.Headers.{IsProgram}
+use Rattle.judge_model.specs.Headers.{HasTable, IsProgram}
 use Rattle.foreign_image.specs.Images.{AreGoodHeaders, HasFileHeader, HoldsTable}
 
 table_length : (image : List ℕ) → length (program_headers image) ≡ (file_header image).e_phnum
@@ -19,6 +19,7 @@ file_header_of image p = record { long = p.long; file = p.file }
 pub program_of :
     (image : List ℕ) (hs : List ProgramHeader) → HasFileHeader image → hs ≡ program_headers image →
     AreGoodHeaders (length image) hs → IsProgram image
+unfolding HasTable
 program_of image hs header table good =
     let g : AreGoodHeaders (length image) (program_headers image) = subst (AreGoodHeaders (length image)) table good in record {
       long = header.long;
@@ -27,20 +28,19 @@ program_of image hs header table good =
       loads_are = g.loads_are;
       parts = g.parts;
       table = g.table;
-      mapped = λ needs.
-          subst (λ (n : ℕ). Any (HoldsTable (64 + 56 * n)) (loads_in (program_headers image))) (table_length image) (g.mapped needs);
+      mapped = subst (λ (n : ℕ). Any (HoldsTable (64 + 56 * n)) (loads_in (program_headers image))) (table_length image) g.mapped;
     }
 
 pub good_of :
     (image : List ℕ) (hs : List ProgramHeader) → hs ≡ program_headers image → IsProgram image → AreGoodHeaders (length image) hs
+unfolding HasTable
 good_of image hs table p =
     let good : AreGoodHeaders (length image) (program_headers image) = record {
       types = p.types;
       loads_are = p.loads_are;
       parts = p.parts;
       table = p.table;
-      mapped = λ needs.
-          subst (λ (n : ℕ). Any (HoldsTable (64 + 56 * n)) (loads_in (program_headers image))) (sym (table_length image)) (p.mapped needs);
+      mapped = subst (λ (n : ℕ). Any (HoldsTable (64 + 56 * n)) (loads_in (program_headers image))) (sym (table_length image)) p.mapped;
     } in
     subst (AreGoodHeaders (length image)) (sym table) good
 

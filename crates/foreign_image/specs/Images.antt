@@ -5,7 +5,7 @@ use Rattle.elf_model.specs.Inputs.Records.{file_header}
 use Rattle.elf_model.specs.declared.constants.TheConstants.{PF_R, PF_W, PF_X}
 use Rattle.elf_model.specs.declared.records.FileHeader.{FileHeader}
 use Rattle.elf_model.specs.declared.records.ProgramHeader.{ProgramHeader}
-use Rattle.judge_model.specs.Headers.{AreLoads, AreTypesRight, IsFileHeader, IsProgram, IsTable, IsTrueOf, needs_table}
+use Rattle.judge_model.specs.Headers.{AreLoads, AreTypesRight, IsFileHeader, IsProgram, IsTable, IsTrueOf}
 
 -- a file has the header of a program
 pub record HasFileHeader (image : List ℕ) : Type 0 where
@@ -38,7 +38,7 @@ pub record AreGoodHeaders (len : ℕ) (hs : List ProgramHeader) : Type 0 where
   pub loads_are : AreLoads len (loads_in hs)
   pub parts : All (IsTrueOf (loads_in hs)) hs
   pub table : All IsTable hs
-  pub mapped : Any (λ h. needs_table h ≡ true) hs → Any (HoldsTable (64 + 56 * length hs)) (loads_in hs)
+  pub mapped : Any (HoldsTable (64 + 56 * length hs)) (loads_in hs)
 
 -- what an image keeps
 pub record IsForeign (image : List ℕ) (header : FileHeader) (hs segments blocks : List ProgramHeader) : Type 0 where

@@ -192,5 +192,5 @@ fn are_good(headers: &[ProgramHeader], segments: &[ProgramHeader], len: usize) -
     if !are_true(segments, headers) || !are_tables(headers) {
         return false;
     }
-    are_mapped(segments, headers, 64 + 56 * headers.len() as u64)
+    are_mapped(segments, 64 + 56 * headers.len() as u64)
 }

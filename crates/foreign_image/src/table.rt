@@ -1,8 +1,8 @@
 //! The rules of a program header table, each a test over the headers alone.
-ghost use Rattle.std.specs.Prelude.{◌≡◌, ◌↔◌, ◌+◌, ◌<◌, ◌≤◌, ◌^◌, ◌||◌, ℕ, All, Any, AllPairs, IsTrue, length, slice_index_or, true};
+ghost use Rattle.std.specs.Prelude.{◌≡◌, ◌↔◌, ◌+◌, ◌/◌, ◌<◌, ◌≤◌, ◌^◌, ◌||◌, ℕ, All, Any, AllPairs, IsTrue, length, slice_index_or, true};
 ghost use Rattle.elf_model.specs.declared.records.ProgramHeader.{ProgramHeader};
 ghost use Rattle.elf_model.specs.Image.MemoryImage.{is_load};
-ghost use Rattle.judge_model.specs.Headers.{AreLoads, AreTypesRight, BeginsIn, IsLoad, IsPartOf, IsSingle, IsTable, IsTrueOf, is_many_type, is_placed_type, is_single_type, needs_table};
+ghost use Rattle.judge_model.specs.Headers.{AreLoads, AreTypesRight, BeginsIn, IsLoad, IsPartOf, IsSingle, IsTable, IsTrueOf, is_many_type, is_placed_type, is_single_type};
 ghost use Rattle.foreign_image.specs.Images.{HasRights, HoldsTable, PagesBefore};
 
 use elf_model::{PF_R, PF_W, PF_X, PT_GNU_STACK, PT_LOAD, PT_TLS, ProgramHeader};
@@ -170,7 +170,23 @@ fn is_part_of(h: &ProgramHeader, g: &ProgramHeader) -> bool
     h.p_filesz <= g.p_filesz - into
 }
 
-/// Whether a header begins in a segment, at the same place of the file.
+/// The number of the page in which a header's memory ends.
+fn last_page(h: &ProgramHeader) -> u64
+    ensures { result ≡ (h.now.p_vaddr + h.now.p_memsz) / 4096 }
+{
+    let bytes = h.p_vaddr % PAGE + h.p_memsz % PAGE;
+    h.p_vaddr / PAGE + h.p_memsz / PAGE + bytes / PAGE
+}
+
+/// The number of the first page behind a segment.
+fn end_page(g: &ProgramHeader) -> u64
+    ensures { result ≡ (g.now.p_vaddr + g.now.p_memsz + 4095) / 4096 }
+{
+    let bytes = g.p_vaddr % PAGE + g.p_memsz % PAGE + (PAGE - 1);
+    g.p_vaddr / PAGE + g.p_memsz / PAGE + bytes / PAGE
+}
+
+/// Whether a header begins in a segment, at the same place of the file, and ends before whole pages behind it.
 fn begins_in(h: &ProgramHeader, g: &ProgramHeader) -> bool
     ensures { IsTrue result ↔ BeginsIn h.now g.now }
 {
@@ -178,7 +194,10 @@ fn begins_in(h: &ProgramHeader, g: &ProgramHeader) -> bool
         return false;
     }
     let into = h.p_vaddr - g.p_vaddr;
-    h.p_offset - g.p_offset == into && into <= g.p_memsz
+    if h.p_offset - g.p_offset != into || into > g.p_memsz {
+        return false;
+    }
+    last_page(h) <= end_page(g)
 }
 
 /// Whether a header of this type says where something is in memory and the file.
@@ -228,12 +247,6 @@ pub fn are_tables(headers: &[ProgramHeader]) -> bool
         .all(|h| h.p_type != PT_PHDR || h.p_offset == 64)
 }
 
-fn needs_table(h: &ProgramHeader) -> bool
-    ensures { result ≡ needs_table h.now }
-{
-    h.p_type == PT_TLS || h.p_type == PT_GNU_EH_FRAME
-}
-
 fn holds_table(g: &ProgramHeader, end: u64) -> bool
     ensures { IsTrue result ↔ HoldsTable end g.now }
 {
@@ -243,13 +256,9 @@ fn holds_table(g: &ProgramHeader, end: u64) -> bool
     end <= g.p_filesz || end - g.p_filesz <= g.p_offset
 }
 
-/// Whether the program headers, which end at an offset of the file, are in memory where a program asks for them.
-pub fn are_mapped(segments: &[ProgramHeader], headers: &[ProgramHeader], end: u64) -> bool
-    ensures { IsTrue result ↔
-        (Any (λ h. needs_table h ≡ true) headers.now → Any (HoldsTable end) segments.now) }
+/// Whether the program headers, which end at an offset of the file, are in memory.
+pub fn are_mapped(segments: &[ProgramHeader], end: u64) -> bool
+    ensures { IsTrue result ↔ Any (HoldsTable end) segments.now }
 {
-    if !headers.iter().any(|h| needs_table(h)) {
-        return true;
-    }
     segments.iter().any(|g| holds_table(g, end))
 }

@@ -1,1 +1,2 @@
 mod Law
+mod Lists

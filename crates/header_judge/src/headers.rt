@@ -8,7 +8,7 @@ ghost use Rattle.judge_model.specs.declared.judgement.Requirement.TheVariants as
 ghost use Rattle.header_judge.specs.Rights.{AreRightBy, HasPhysical, IsOfLink};
 
 use crate::protected::do_all_spare;
-use crate::stack::{are_stacks, may_execute};
+use crate::stack::{are_stacks, are_stacks_told, may_execute, must_execute};
 use check_link::Placed;
 use check_load::Loaded;
 use elf_model::ProgramHeader;
@@ -27,9 +27,15 @@ fn are_physical(physical: bool, headers: &[ProgramHeader]) -> bool
     headers.iter().all(|h| has_physical(physical, h))
 }
 
-/// Whether the headers are right of placed things, where the stack may be executed or not.
-fn are_right_by(image: &ForeignImage<'_>, physical: bool, may: bool, placed: &[Placed<'_>]) -> bool
-    ensures { IsTrue result ↔ AreRightBy image.now physical may (placed_views placed.now) }
+/// Whether the headers are right of placed things, where the stack must be executed or not, and may be or not.
+fn are_right_by(
+    image: &ForeignImage<'_>,
+    physical: bool,
+    must: bool,
+    may: bool,
+    placed: &[Placed<'_>],
+) -> bool
+    ensures { IsTrue result ↔ AreRightBy image.now physical must may (placed_views placed.now) }
 {
     let _program = image.image();
     let headers = image.headers();
@@ -39,13 +45,17 @@ fn are_right_by(image: &ForeignImage<'_>, physical: bool, may: bool, placed: &[P
     if !are_stacks(may, headers) {
         return false;
     }
+    if !are_stacks_told(must, may, headers) {
+        return false;
+    }
     do_all_spare(placed, headers)
 }
 
 /// Whether the headers of a link's image, which is a program, give it no more than the link does: physical addresses are
 /// the virtual ones, unless the script has AT (`physical`); PT_GNU_RELRO makes nothing read-only that the program may
-/// write; and the stack may be executed only where the words ask for it (`executes`), or they say nothing of it and an object
-/// asks: by the flags of its `.note.GNU-stack`, or by having none.
+/// execute or write; and the stack may be executed only where the words ask for it (`executes`), or they say nothing of it and an
+/// object asks: by the flags of its `.note.GNU-stack`, or by having none. And they make the stack executable where the words ask
+/// for it, or say nothing of it and the note of an object does; where it may not be executed PT_GNU_STACK is there.
 pub fn are_headers_right(
     image: &ForeignImage<'_>,
     objects: &[Loaded<'_>],
@@ -57,6 +67,7 @@ pub fn are_headers_right(
         → IsOfLink l image.now (loaded_views objects.now) (placed_views placed.now) physical executes
         → IsTrue result ↔ Holds requirement.F12 l }
 {
+    let must = must_execute(executes, objects);
     let may = may_execute(executes, objects);
-    are_right_by(image, physical, may, placed)
+    are_right_by(image, physical, must, may, placed)
 }

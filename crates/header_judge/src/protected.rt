@@ -1,7 +1,7 @@
-//! What PT_GNU_RELRO makes read-only: whole pages, and in them nothing that the program may write.
+//! What PT_GNU_RELRO makes read-only: whole pages, and in them no code, and nothing that the program may write.
 ghost use Rattle.std.specs.Prelude.{◌≡◌, ◌↔◌, ◌+◌, ◌/◌, ◌*◌, All, IsTrue};
 ghost use Rattle.check_link.specs.Views.{placed_view, placed_views};
-ghost use Rattle.judge_model.specs.Headers.{is_written_late};
+ghost use Rattle.judge_model.specs.Headers.{is_used_late};
 ghost use Rattle.header_judge.specs.Rights.{IsApart, IsSpared, SparesAll};
 
 use crate::early_names::is_early_name;
@@ -36,17 +36,20 @@ fn is_apart(h: &ProgramHeader, q: &Placed<'_>) -> bool
     q.at < first && size <= first - q.at
 }
 
-/// Whether a program may write a placed thing once it runs.
-fn is_written_late(q: &Placed<'_>) -> bool
-    ensures { result ≡ is_written_late (placed_view q.now) }
+/// Whether a program may execute a placed thing, or write it once it runs.
+fn is_used_late(q: &Placed<'_>) -> bool
+    ensures { result ≡ is_used_late (placed_view q.now) }
 {
+    if q.piece.header.is_executable() {
+        return true;
+    }
     q.piece.header.is_writable() && !is_early_name(q.piece.name)
 }
 
 fn is_spared(h: &ProgramHeader, q: &Placed<'_>) -> bool
     ensures { IsTrue result ↔ IsSpared h.now (placed_view q.now) }
 {
-    !is_written_late(q) || is_apart(h, q)
+    !is_used_late(q) || is_apart(h, q)
 }
 
 fn are_spared(h: &ProgramHeader, placed: &[Placed<'_>]) -> bool
@@ -55,7 +58,7 @@ fn are_spared(h: &ProgramHeader, placed: &[Placed<'_>]) -> bool
     placed.iter().all(|q| is_spared(h, q))
 }
 
-/// Whether a header makes nothing read-only that the program may write.
+/// Whether a header makes nothing read-only that the program may execute or write.
 fn spares_all(placed: &[Placed<'_>], h: &ProgramHeader) -> bool
     ensures { IsTrue result ↔ SparesAll (placed_views placed.now) h.now }
 {
@@ -65,7 +68,7 @@ fn spares_all(placed: &[Placed<'_>], h: &ProgramHeader) -> bool
     are_spared(h, placed)
 }
 
-/// Whether no header makes anything read-only that the program may write.
+/// Whether no header makes anything read-only that the program may execute or write.
 pub fn do_all_spare(placed: &[Placed<'_>], headers: &[ProgramHeader]) -> bool
     ensures { IsTrue result ↔ All (SparesAll (placed_views placed.now)) headers.now }
 {

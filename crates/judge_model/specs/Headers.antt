@@ -1,7 +1,7 @@
 -- F11 and F12. The headers of an image: what the system asks of them to map it, and that they are true (System V gABI 4, "ELF
 -- Header", 5, "Program Header"; PT_GNU_STACK, PT_GNU_RELRO and PT_GNU_PROPERTY are those of GNU; pages and tails are those
 -- of Linux on x86-64).
-use Rattle.std.specs.Prelude.{◌≡◌, ◌⊎◌, ℕ, ◌+◌, ◌-◌, ◌*◌, ◌/◌, ◌%◌, ◌^◌, ◌<◌, ◌≤◌, ◌==◌, ◌&&◌, ◌||◌, Bool, true, not, List, [], ◌∷◌, All, AllPairs, Any, bit_and, codes, count_by, length, slice_index, take, unwrap_or}
+use Rattle.std.specs.Prelude.{◌≡◌, ◌⊎◌, ℕ, ◌+◌, ◌-◌, ◌*◌, ◌/◌, ◌%◌, ◌^◌, ◌<◌, ◌≤◌, ◌==◌, ◌&&◌, ◌||◌, Bool, true, false, not, List, [], ◌∷◌, All, AllPairs, Any, bit_and, codes, count_by, length, slice_index, take, unwrap_or}
 use Rattle.std.specs.List.{list_any}
 use Rattle.std.specs.Str.{bytes_eq}
 use Rattle.elf_model.specs.Image.MemoryImage.{ShareNoPage, loads, program_headers}
@@ -106,32 +106,32 @@ IsPartOf h g =
     × (h.p_vaddr + h.p_filesz ≤ g.p_vaddr + g.p_filesz)
     × (h.p_offset + g.p_vaddr ≡ g.p_offset + h.p_vaddr)
 
--- PT_GNU_RELRO may reach behind the file's part
+-- PT_GNU_RELRO may reach behind the file's part, but not behind the segment's last page, where a C library could protect nothing
 abbrev pub BeginsIn : ProgramHeader → ProgramHeader → Type 0
 BeginsIn h g =
-    (g.p_vaddr ≤ h.p_vaddr) × (h.p_vaddr ≤ g.p_vaddr + g.p_memsz) × (h.p_offset + g.p_vaddr ≡ g.p_offset + h.p_vaddr)
+    (g.p_vaddr ≤ h.p_vaddr)
+    × (h.p_vaddr ≤ g.p_vaddr + g.p_memsz)
+    × (h.p_offset + g.p_vaddr ≡ g.p_offset + h.p_vaddr)
+    × ((h.p_vaddr + h.p_memsz) / 4096 ≤ (g.p_vaddr + g.p_memsz + 4095) / 4096)
 
 pub record IsTrueOf (hs : List ProgramHeader) (h : ProgramHeader) : Type 0 where
   pub part : is_placed_type h.p_type ≡ true → Any (IsPartOf h) hs
   pub protected : h.p_type ≡ pt_gnu_relro → Any (BeginsIn h) hs
 
--- PT_PHDR is where the program headers are, and may be larger than these. Where a program asks for thread-local storage or
--- for frames it finds them through its program headers, which then are in memory.
+-- PT_PHDR is where the program headers are, and may be larger than these. They are in memory: the system tells a program where
+-- (AT_PHDR), and static C libraries read them there before main, whatever they find.
 abbrev pub IsTable : ProgramHeader → Type 0
 IsTable h = h.p_type ≡ pt_phdr → h.p_offset ≡ 64
 
-abbrev pub needs_table : ProgramHeader → Bool
-needs_table h = h.p_type == 7 || h.p_type == pt_gnu_eh_frame
-
-abbrev pub HasTable : List ℕ → Type 0
+unfoldable pub HasTable : List ℕ → Type 0
 HasTable image = Any (λ g. (g.p_offset ≤ 64) × (64 + 56 * (file_header image).e_phnum ≤ g.p_offset + g.p_filesz)) (loads image)
 
 -- physical addresses are the virtual ones unless a script says otherwise; PT_GNU_STACK has none
 abbrev pub IsPhysical : ForeignLink → ProgramHeader → Type 0
 IsPhysical l h = (h.p_paddr ≡ h.p_vaddr) ⊎ (in_script (λ t. t.physical) l.plan ≡ true)
 
--- PT_GNU_RELRO makes memory read-only before the program runs: whole pages of it, and so nothing that the program may write
--- but what is written before.
+-- PT_GNU_RELRO makes memory read-only before the program runs: whole pages of it, and so no code, and nothing that the program
+-- may write but what is written before.
 abbrev pub relro_names : List (List ℕ)
 relro_names =
     codes ".tdata" ∷ codes ".tbss" ∷ codes ".init_array" ∷ codes ".fini_array" ∷ codes ".preinit_array" ∷ codes ".ctors"
@@ -141,8 +141,8 @@ relro_names =
 abbrev pub is_written_early : Piece → Bool
 is_written_early p = list_any (is_gathered_by p.name) relro_names
 
-abbrev pub is_written_late : Placed → Bool
-is_written_late q = is_writable q.piece.header && not (is_written_early q.piece)
+abbrev pub is_used_late : Placed → Bool
+is_used_late q = is_executable q.piece.header || (is_writable q.piece.header && not (is_written_early q.piece))
 
 -- from the first page's beginning to the last page's beginning
 abbrev pub IsProtected : ProgramHeader → ℕ → Type 0
@@ -151,7 +151,7 @@ IsProtected h a = (h.p_vaddr / 4096 * 4096 ≤ a) × (a < (h.p_vaddr + h.p_memsz
 abbrev pub ProtectsNone : ForeignLink → ProgramHeader → Type 0
 ProtectsNone l h =
     h.p_type ≡ pt_gnu_relro
-    → All (λ q. is_written_late q ≡ true → (a : ℕ) → Covers (thing_of q) a → ¬ IsProtected h a) (placed_of l)
+    → All (λ q. is_used_late q ≡ true → (a : ℕ) → Covers (thing_of q) a → ¬ IsProtected h a) (placed_of l)
 
 -- The stack is executable only where the words ask for it, or they don't forbid it and an object asks: by the flags of its
 -- .note.GNU-stack; or by having none, since a compiler that says nothing of the stack may execute it (GNU ld, gold).
@@ -173,6 +173,17 @@ may_execute_stack l = unwrap_or l.plan.executes_stack (list_any (λ o. asks_for_
 abbrev pub IsStackRight : ForeignLink → ProgramHeader → Type 0
 IsStackRight l h = h.p_type ≡ pt_gnu_stack → bit_and h.p_flags PF_X ≡ PF_X → may_execute_stack l ≡ true
 
+-- It is executable where the words ask for it, or they don't forbid it and an object's note asks. And where it may not be there is
+-- the header: without it Linux before 5.8 executes whatever may be read.
+abbrev pub must_execute_stack : ForeignLink → Bool
+must_execute_stack l = unwrap_or l.plan.executes_stack (list_any (λ o. is_executing_note o.bytes) (objects_of l))
+
+abbrev pub IsStack : ProgramHeader → Type 0
+IsStack h = h.p_type ≡ pt_gnu_stack
+
+abbrev pub IsExecutedStack : ProgramHeader → Type 0
+IsExecutedStack h = (h.p_type ≡ pt_gnu_stack) × (bit_and h.p_flags PF_X ≡ PF_X)
+
 -- what the image alone tells: a program that the system maps, whose headers are true
 pub record IsProgram (image : List ℕ) : Type 0 where
   pub long : 64 ≤ length image
@@ -181,11 +192,13 @@ pub record IsProgram (image : List ℕ) : Type 0 where
   pub loads_are : AreLoads (length image) (loads image)
   pub parts : All (IsTrueOf (loads image)) (program_headers image)
   pub table : All IsTable (program_headers image)
-  pub mapped : Any (λ h. needs_table h ≡ true) (program_headers image) → HasTable image
+  pub mapped : HasTable image
 
--- F12. It is a program, and has no more rights than the link gives it.
+-- F12. It is a program, has no more rights than the link gives it, and the stack that it asks for.
 pub record AreHeadersRight (l : ForeignLink) : Type 0 where
   pub program : IsProgram l.image
   pub physical : All (IsPhysical l) (program_headers l.image)
   pub relro : All (ProtectsNone l) (program_headers l.image)
   pub stack : All (IsStackRight l) (program_headers l.image)
+  pub executed : must_execute_stack l ≡ true → Any IsExecutedStack (program_headers l.image)
+  pub told : may_execute_stack l ≡ false → Any IsStack (program_headers l.image)

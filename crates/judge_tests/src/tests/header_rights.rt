@@ -52,9 +52,17 @@ const DATA: Row = Row {
     executes: None,
 };
 
-/// Sections that are written early, one that isn't written, data before the page and behind it, data in a page that PT_GNU_RELRO
-/// doesn't reach the end of; a stack that isn't executed, one that the words ask for; a physical address that the script gives.
-static RIGHT: [Row; 9] = [
+/// Code, which can't be executed where memory is read-only (mprotect with PROT_READ alone).
+const TEXT: Row = Row {
+    name: b".text",
+    flags: SHF_ALLOC + SHF_EXECINSTR,
+    ..DATA
+};
+
+/// Sections that are written early, one that isn't written, data before the page and behind it, code before it, data in a page that
+/// PT_GNU_RELRO doesn't reach the end of; a stack that isn't executed, one that the words ask for; a physical address that the
+/// script gives.
+static RIGHT: [Row; 10] = [
     Row {
         name: b".data.rel.ro.local",
         ..DATA
@@ -71,6 +79,10 @@ static RIGHT: [Row; 9] = [
     Row {
         at: 0x20_0ff8,
         ..DATA
+    },
+    Row {
+        at: 0x20_0ff8,
+        ..TEXT
     },
     Row {
         at: 0x20_2000,
@@ -105,10 +117,11 @@ static RIGHT: [Row; 9] = [
     },
 ];
 
-/// Data in the page, of names that are like early ones, before PT_GNU_RELRO but in its page, and that reach into it; a stack that
-/// nothing asks for; a physical address that no script gives.
-static WRONG: [Row; 7] = [
+/// Data and code in the page, data of names that are like early ones, before PT_GNU_RELRO but in its page, and that reach into it; a
+/// stack that the words forbid; a physical address that no script gives.
+static WRONG: [Row; 8] = [
     DATA,
+    TEXT,
     Row {
         name: b".data.rel",
         ..DATA
@@ -130,6 +143,7 @@ static WRONG: [Row; 7] = [
             p_flags: 7,
             ..STACK
         },
+        executes: Some(false),
         ..DATA
     },
     Row {
@@ -177,11 +191,25 @@ fn judged(alloc: Global, objects: &[Loaded<'_>], row: &Row) -> Result<Option<boo
     }
 }
 
+/// The same with an object that has a section of a name and of flags.
+fn judged_with(
+    alloc: Global,
+    name: &'static str,
+    flags: u64,
+    row: &Row,
+) -> Result<Option<bool>, Fail> {
+    let bytes = object(alloc, &[Part(name, SHT_PROGBITS, flags, 1, 0)], &[])?;
+    let files = file(alloc, bytes)?;
+    let words = words(alloc)?;
+    let named = loaded(alloc, &words, &files)?;
+    Ok(judged(alloc, &named.objects, row)?)
+}
+
 #[test]
 fn headers_within_the_link_are_right(rt: HostRuntime) -> Result<(), Fail> {
     let mut all = true;
     for row in &RIGHT {
-        all = judged(rt.alloc(), &[], row)? == Some(true) && all;
+        all = judged_with(rt.alloc(), ".text", SHF_EXECINSTR, row)? == Some(true) && all;
     }
     assert!(rt; all);
     Ok(())
@@ -191,7 +219,7 @@ fn headers_within_the_link_are_right(rt: HostRuntime) -> Result<(), Fail> {
 fn headers_beyond_the_link_are_not(rt: HostRuntime) -> Result<(), Fail> {
     let mut all = true;
     for row in &WRONG {
-        all = judged(rt.alloc(), &[], row)? == Some(false) && all;
+        all = judged_with(rt.alloc(), ".text", SHF_EXECINSTR, row)? == Some(false) && all;
     }
     assert!(rt; all);
     Ok(())
@@ -212,11 +240,7 @@ fn executed_with(
         executes,
         ..DATA
     };
-    let bytes = object(alloc, &[Part(name, SHT_PROGBITS, flags, 1, 0)], &[])?;
-    let files = file(alloc, bytes)?;
-    let words = words(alloc)?;
-    let named = loaded(alloc, &words, &files)?;
-    Ok(judged(alloc, &named.objects, &row)?)
+    judged_with(alloc, name, flags, &row)
 }
 
 /// A note asks for it by EXECINSTR, and an object without one does, as GNU ld and gold have it; words that forbid it come first.
@@ -228,5 +252,69 @@ fn an_object_asks_for_an_executed_stack(rt: HostRuntime) -> Result<(), Fail> {
     let forbidden = executed_with(rt.alloc(), Some(false), ".text", SHF_EXECINSTR)?;
     let told = (asked, not, silent, forbidden);
     assert!(rt; told == (Some(true), Some(false), Some(true), Some(false)));
+    Ok(())
+}
+
+/// What words say of the stack, whether an object's note asks for one that is executed or it has none, the flags of PT_GNU_STACK
+/// where there is one, and whether that is right.
+struct Told(Option<bool>, Ask, Option<u32>, bool);
+
+enum Ask {
+    Executed,
+    NotExecuted,
+    Silent,
+}
+
+const STACK_NOTE: &str = ".note.GNU-stack";
+
+/// GNU ld and gold write RWE where a note asks, LLD 14 and mold 1.10 RW, and a program with code on its stack then dies. Without the
+/// header Linux before 5.8 executes whatever may be read.
+static STACKS: [Told; 10] = [
+    Told(None, Ask::Executed, Some(7), true),
+    Told(None, Ask::Executed, Some(6), false),
+    Told(None, Ask::Executed, None, false),
+    Told(Some(true), Ask::NotExecuted, Some(7), true),
+    Told(Some(true), Ask::NotExecuted, Some(6), false),
+    Told(Some(false), Ask::Executed, Some(6), true),
+    Told(None, Ask::NotExecuted, Some(6), true),
+    Told(None, Ask::NotExecuted, None, false),
+    Told(None, Ask::Silent, None, true),
+    Told(Some(false), Ask::Silent, None, false),
+];
+
+fn row_of(stack: &Told) -> Row {
+    match stack.2 {
+        Some(flags) => Row {
+            header: ProgramHeader {
+                p_flags: flags,
+                ..STACK
+            },
+            executes: stack.0,
+            ..DATA
+        },
+        None => Row {
+            name: b".data.rel.ro",
+            executes: stack.0,
+            ..DATA
+        },
+    }
+}
+
+fn judged_stack(alloc: Global, stack: &Told) -> Result<Option<bool>, Fail> {
+    let row = row_of(stack);
+    match stack.1 {
+        Ask::Executed => judged_with(alloc, STACK_NOTE, SHF_EXECINSTR, &row),
+        Ask::NotExecuted => judged_with(alloc, STACK_NOTE, 0, &row),
+        Ask::Silent => judged_with(alloc, ".text", SHF_EXECINSTR, &row),
+    }
+}
+
+#[test]
+fn stacks_are_what_is_asked_for(rt: HostRuntime) -> Result<(), Fail> {
+    let mut all = true;
+    for stack in &STACKS {
+        all = judged_stack(rt.alloc(), stack)? == Some(stack.3) && all;
+    }
+    assert!(rt; all);
     Ok(())
 }

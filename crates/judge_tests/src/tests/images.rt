@@ -84,9 +84,19 @@ const OTHER_HEADERS: [FileHeader; 7] = [
     },
 ];
 
+/// A note, and memory that is read-only up to the end of its page.
+const NOTE: ProgramHeader = ProgramHeader { p_type: 4, ..BLOCK };
+
+const RELRO: ProgramHeader = ProgramHeader {
+    p_type: 0x6474_e552,
+    p_memsz: 0xf18,
+    ..BLOCK
+};
+
 /// Program headers of no program: a tail that can't be cleared, one that can't be read, one at another place of its page, more
-/// bytes than memory, falling addresses, a page of two, two blocks, headers that aren't mapped, a type that isn't known.
-const OTHER_SEGMENTS: [[ProgramHeader; 3]; 9] = [
+/// bytes than memory, falling addresses, a page of two, two blocks, headers that aren't mapped, of which the C library reads where
+/// it starts, be there a block or not, a type that isn't known, memory that is read-only pages behind its segment.
+const OTHER_SEGMENTS: [[ProgramHeader; 3]; 11] = [
     [HEADERS, ProgramHeader { p_flags: 5, ..CODE }, BLOCK],
     [HEADERS, ProgramHeader { p_flags: 2, ..CODE }, BLOCK],
     [
@@ -123,7 +133,23 @@ const OTHER_SEGMENTS: [[ProgramHeader; 3]; 9] = [
         CODE,
         BLOCK,
     ],
+    [
+        ProgramHeader {
+            p_filesz: 231,
+            ..HEADERS
+        },
+        CODE,
+        NOTE,
+    ],
     [HEADERS, CODE, ProgramHeader { p_type: 2, ..BLOCK }],
+    [
+        HEADERS,
+        CODE,
+        ProgramHeader {
+            p_memsz: 0x1f18,
+            ..RELRO
+        },
+    ],
 ];
 
 pub fn image_of(
@@ -167,6 +193,10 @@ fn is_program(
 fn the_headers_are_those_of_a_program(rt: HostRuntime) -> Result<(), Fail> {
     let told = is_program(rt.alloc(), &HEADER, &[HEADERS, CODE, BLOCK])?;
     assert!(rt; told);
+    let noted = is_program(rt.alloc(), &HEADER, &[HEADERS, CODE, NOTE])?;
+    assert!(rt; noted);
+    let protected = is_program(rt.alloc(), &HEADER, &[HEADERS, CODE, RELRO])?;
+    assert!(rt; protected);
     Ok(())
 }
 

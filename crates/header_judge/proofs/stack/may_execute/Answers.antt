@@ -1,14 +1,11 @@
-use Rattle.std.proofs.Common.{◌≡◌, ◌∙◌, ◌||◌, Bool, List, [], ◌∷◌, Option, ap, map, refl, sym}
+use Rattle.std.proofs.Common.{◌∙◌, Bool, Option, ap, sym}
 use Rattle.std.specs.Prelude.{unwrap_or}
 use Rattle.std.specs.List.{list_any}
 use Rattle.elf_model.specs.Link.Loading.{LoadedObject}
 use Rattle.check_load.specs.Views.{loaded_view, loaded_views}
 use Rattle.judge_model.specs.Headers.{asks_for_stack}
+use Rattle.header_judge.proofs.Lists.{any_map}
 use Rattle.header_judge.proofs.stack.may_execute.Goals as goal
-
-any_map : {X Y : Type 0} (p : Y → Bool) (f : X → Y) (xs : List X) → list_any (λ x. p (f x)) xs ≡ list_any p (map f xs)
-any_map p f [] = refl
-any_map p f (x ∷ xs) = ap (λ (b : Bool). p (f x) || b) (any_map p f xs)
 
 pub returns-in-None : goal.returns-in-None
 returns-in-None c =

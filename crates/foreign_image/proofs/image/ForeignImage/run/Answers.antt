@@ -1,4 +1,5 @@
-use Rattle.std.proofs.Common.{List, ap, refl, subst, ◌∙◌}
+use Rattle.std.proofs.Common.{List, ap, refl, subst, sym, ◌∙◌}
+use Rattle.std.proofs.lemmas.Bool.{false≢true}
 use Rattle.std.specs.Prelude.{Any, Contains}
 use Rattle.elf_model.specs.Image.MemoryImage.{Encloses, loads}
 use Rattle.elf_model.specs.declared.records.ProgramHeader.{ProgramHeader}
@@ -17,3 +18,11 @@ returns-clause-run c =
     c.self.invariant.program
     (subst (λ (hs : List ProgramHeader). Contains hs c.in_ok-segment.segment.now) c.deref.ensures.value c.in_ok-segment.ensures.there)
     c.in_ok-segment.ensures.encloses c.run_in.ensures.whole c.run_in.ensures.same
+
+pub returns-in_err-segment-clause-found : goal.returns-in_err-segment-clause-found
+returns-in_err-segment-clause-found c =
+    let kept = c.deref.ensures.value ∙ (c.self.invariant.segments_are ∙ ap loads c.self.view_is) in
+    rw c.from_residual.ensures (
+      λ t. absurd (false≢true t),
+      λ a. c.in_err-segment.ensures.found.1 (subst (Any (λ (h : ProgramHeader). Encloses h c.args.addr c.args.len)) (sym kept) a),
+    )
