@@ -97,6 +97,7 @@ module _ (s : Subject) (order : AreInOrder s) (holds : (c : Clause) → right.Ho
   right_header a e c = record {
     low = let l = (good_block (header a) c).end in omega (arith, l);
     power = (good_block (header a) c).align;
+    aligned = (good_block (header a) c).aligned;
     block = inl (record {
       start = e;
       end = inl (let l = start_below qs a (subst (λ o. IsStart is_thread_piece o qs) e (start_is is_thread_piece qs)) in omega (arith, l));

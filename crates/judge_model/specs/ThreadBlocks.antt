@@ -1,6 +1,6 @@
 -- F9. The block of thread-local storage: PT_TLS says where it is, and from this header come the offsets from the thread
 -- pointer (System V gABI 5, "Program Header", PT_TLS; ELF Handling For Thread-Local Storage, variant II).
-use Rattle.std.specs.Prelude.{◌≡◌, ◌⊎◌, ℕ, ℤ, pos, ◌-ℤ◌, ◌+◌, ◌^◌, ◌<◌, ◌≤◌, ◌&&◌, Bool, true, List, Option, Some, All, Any, filter, map, max, nat_lt}
+use Rattle.std.specs.Prelude.{◌≡◌, ◌⊎◌, ℕ, ℤ, pos, ◌-ℤ◌, ◌+◌, ◌%◌, ◌^◌, ◌<◌, ◌≤◌, ◌&&◌, Bool, true, List, Option, Some, All, Any, filter, map, max, nat_lt}
 use Rattle.std.specs.Int.{is_power_of_two}
 use Rattle.std.specs.List.{slice_get}
 use Rattle.std.specs.Option.{option_map_or}
@@ -48,9 +48,12 @@ HasInitial hs h = Any (HoldsInitial h) hs ⊎ IsNowhere hs h
 abbrev pub IsSomeBlock : List Placed → ProgramHeader → Type 0
 IsSomeBlock qs h = IsBlockOf is_thread_piece qs h ⊎ IsBlockOf is_some_thread qs h
 
+-- The address is a multiple of the alignment: else a C library, which rounds up the block's size, and the standard, which rounds
+-- up its end, have two thread pointers.
 pub record IsThreadHeader (image : List ℕ) (qs : List Placed) (h : ProgramHeader) : Type 0 where
   pub low : h.p_vaddr + h.p_memsz ≤ 2 ^ 47
   pub power : is_power_of_two h.p_align ≡ true
+  pub aligned : h.p_vaddr % h.p_align ≡ 0
   pub block : IsSomeBlock qs h
   pub initial : h.p_vaddr + h.p_filesz ≡ max h.p_vaddr (end_of_pieces is_some_thread_data qs)
   pub segment : HasInitial (loads image) h

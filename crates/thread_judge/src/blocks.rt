@@ -1,5 +1,5 @@
 //! PT_TLS against the thread-local pieces of a link.
-ghost use Rattle.std.specs.Prelude.{◌≡◌, ◌↔◌, ◌+◌, ◌≤◌, ◌^◌, All, Any, IsTrue, Some, max, true};
+ghost use Rattle.std.specs.Prelude.{◌≡◌, ◌↔◌, ◌+◌, ◌%◌, ◌≤◌, ◌^◌, All, Any, IsTrue, Some, max, true};
 ghost use Rattle.elf_model.specs.Image.MemoryImage.{Encloses};
 ghost use Rattle.elf_model.specs.Link.LinkerValues.{end_of_pieces, start_of_pieces};
 ghost use Rattle.elf_model.specs.Link.ThreadStorage.{is_some_thread_data};
@@ -137,6 +137,14 @@ fn is_initial_right(placed: &[Placed<'_>], h: &ProgramHeader) -> bool
     h.p_filesz == end - h.p_vaddr
 }
 
+/// Whether a header's address is a multiple of its alignment.
+fn is_aligned(h: &ProgramHeader) -> bool
+    requires { is_power_of_two h.now.p_align ≡ true }
+    ensures { IsTrue result ↔ h.now.p_vaddr % h.now.p_align ≡ 0 }
+{
+    h.p_vaddr % h.p_align == 0
+}
+
 /// Whether a header of PT_TLS is right.
 fn is_thread_header(image: &ForeignImage<'_>, placed: &[Placed<'_>], h: &ProgramHeader) -> bool
     requires { AreLow (placed_views placed.now) }
@@ -145,10 +153,10 @@ fn is_thread_header(image: &ForeignImage<'_>, placed: &[Placed<'_>], h: &Program
     if h.p_vaddr > ADDRESS_END || h.p_memsz > ADDRESS_END - h.p_vaddr {
         return false;
     }
-    if !h.p_align.is_power_of_two() || !is_some_block(placed, h) {
+    if !h.p_align.is_power_of_two() || !is_aligned(h) {
         return false;
     }
-    if !is_initial_right(placed, h) {
+    if !is_some_block(placed, h) || !is_initial_right(placed, h) {
         return false;
     }
     has_initial(h, image.segments())

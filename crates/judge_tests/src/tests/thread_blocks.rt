@@ -87,10 +87,15 @@ fn placed_at(at: u64, header: SectionHeader) -> Placed<'static> {
     }
 }
 
-/// Whether a header is right of both sections; None where the image isn't read.
-fn judged(alloc: Global, block: &ProgramHeader) -> Result<Option<bool>, AllocError> {
+/// Whether a header is right of two sections at addresses; None where the image isn't read.
+fn judged_at(
+    alloc: Global,
+    block: &ProgramHeader,
+    data: u64,
+    zeros: Placed<'static>,
+) -> Result<Option<bool>, AllocError> {
     let bytes = image_of(alloc, &HEADER, &[HEADERS, CODE, *block])?;
-    let placed = [placed_at(0x20_10e8, DATA), placed_at(0x20_10f0, ZEROS)];
+    let placed = [placed_at(data, DATA), zeros];
     if !are_low(&placed) {
         return Ok(None);
     }
@@ -98,6 +103,43 @@ fn judged(alloc: Global, block: &ProgramHeader) -> Result<Option<bool>, AllocErr
         Some(image) => Ok(Some(is_thread_block_right(&image, &placed))),
         None => Ok(None),
     }
+}
+
+/// The same of both sections one behind the other.
+fn judged(alloc: Global, block: &ProgramHeader) -> Result<Option<bool>, AllocError> {
+    judged_at(alloc, block, 0x20_10e8, placed_at(0x20_10f0, ZEROS))
+}
+
+/// Zeros with a greater alignment than the data.
+const ALIGNED_ZEROS: SectionHeader = SectionHeader {
+    sh_addralign: 16,
+    ..ZEROS
+};
+
+/// A block begins at a multiple of its alignment: GNU ld, gold, LLD and mold have it so, and the offsets from the thread pointer that
+/// the standard and glibc compute are the same only there.
+#[test]
+fn blocks_begin_at_their_alignment(rt: HostRuntime) -> Result<(), Fail> {
+    let beside = ProgramHeader {
+        p_align: 16,
+        ..EXACT
+    };
+    let at = ProgramHeader {
+        p_vaddr: 0x20_10f0,
+        p_offset: 240,
+        p_memsz: 20,
+        ..beside
+    };
+    let alloc = rt.alloc();
+    let right = judged_at(alloc, &at, 0x20_10f0, placed_at(0x20_1100, ALIGNED_ZEROS))?;
+    let wrong = judged_at(
+        alloc,
+        &beside,
+        0x20_10e8,
+        placed_at(0x20_10f0, ALIGNED_ZEROS),
+    )?;
+    assert!(rt; (right, wrong) == (Some(true), Some(false)));
+    Ok(())
 }
 
 #[test]
