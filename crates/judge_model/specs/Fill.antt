@@ -6,17 +6,18 @@ use Rattle.std.specs.List.{prefix_len, slice_get, starts_with}
 use Rattle.std.specs.Option.{option_and_then, option_map_or}
 use Rattle.std.specs.Str.{bytes_eq}
 use Rattle.elf_model.specs.Image.MemoryImage.{loads}
+use Rattle.elf_model.specs.Link.LinkerValues.{start_of_pieces}
 use Rattle.elf_model.specs.Link.Pieces.{Piece}
 use Rattle.elf_model.specs.Link.Placement.{Covers, Placed}
 use Rattle.elf_model.specs.Link.Relocation.{Relocation}
 use Rattle.elf_model.specs.declared.constants.TheConstants.{PF_X}
 use Rattle.elf_model.specs.declared.records.ProgramHeader.{ProgramHeader}
-use Rattle.elf_model.specs.declared.bound.Bound.TheVariants.{ImageEnd}
+use Rattle.elf_model.specs.declared.bound.Bound.TheVariants.{ImageEnd, ZeroStart}
 use Rattle.judge_model.specs.Certificates.{NameRow}
-use Rattle.judge_model.specs.Names.{bound_of}
+use Rattle.judge_model.specs.Names.{bound_of, is_some_zeros}
 use Rattle.judge_model.specs.Fields.{HasSlotAt, slot_thing}
 use Rattle.elf_model.specs.Link.Meaning.{object_meaning}
-use Rattle.judge_model.specs.Links.{ForeignLink, objects_of, relocations_of, sections_of}
+use Rattle.judge_model.specs.Links.{ForeignLink, objects_of, placed_of, relocations_of, sections_of}
 use Rattle.judge_model.specs.Memory.{Holds}
 use Rattle.judge_model.specs.Placed.{things_of}
 use Rattle.judge_model.specs.Runs.{IsBetween}
@@ -119,8 +120,21 @@ abbrev pub IsBehindSlots : ForeignLink → NameRow → Type 0
 IsBehindSlots l row =
     object_meaning (objects_of l) row.name ≡ None → bound_of l row.name ≡ Some ImageEnd → All (λ r. (at : ℕ) → HasSlotAt l r at → at + 8 ≤ row.value) (relocations_of l)
 
+-- and no slot is between the name for where zeros begin and these, nor behind it where there are none: a program that clears from
+-- there on would lose it
+abbrev pub IsBeforeZeros : Option ℕ → ℕ → ℕ → Type 0
+IsBeforeZeros None v at = at + 8 ≤ v
+IsBeforeZeros (Some start) v at = (at + 8 ≤ v) ⊎ (start ≤ at)
+
+abbrev pub SparesSlots : ForeignLink → NameRow → Type 0
+SparesSlots l row =
+    object_meaning (objects_of l) row.name ≡ None
+    → bound_of l row.name ≡ Some ZeroStart
+    → All (λ r. (at : ℕ) → HasSlotAt l r at → IsBeforeZeros (start_of_pieces is_some_zeros (placed_of l)) row.value at) (relocations_of l)
+
 pub record IsFilled (l : ForeignLink) : Type 0 where
   pub ends : All (IsBehindSlots l) l.certificate.names
+  pub starts : All (SparesSlots l) l.certificate.names
   pub gaps :
       (h : ProgramHeader) (from to : ℕ) → Contains (loads l.image) h → IsGap l h from to
       → (bytes : List ℕ) × (length bytes ≡ to - from) × Holds l.image from bytes × IsGapRight l h from bytes

@@ -1,12 +1,12 @@
 -- The names that a linker or its script defines where no object does, and which values they may have (ld(1) and the default
 -- scripts of GNU ld). A certificate gives each its one value; here is what a value has to be.
-use Rattle.std.specs.Prelude.{◌≡◌, ◌⊎◌, ℕ, ◌+◌, ◌-◌, ◌*◌, ◌/◌, ◌<◌, ◌≤◌, ◌&&◌, Bool, not, cond, List, [], ◌∷◌, Option, None, Some, All, Any, IfSome, bit_and, codes, unwrap_or}
+use Rattle.std.specs.Prelude.{◌≡◌, ◌⊎◌, ℕ, ◌+◌, ◌-◌, ◌*◌, ◌/◌, ◌<◌, ◌≤◌, ◌&&◌, Bool, not, true, cond, List, [], ◌∷◌, Option, None, Some, All, AllPairs, Any, IfSome, bit_and, codes, nat_lt, unwrap_or}
 use Rattle.std.specs.Option.{option_or}
 use Rattle.std.specs.Str.{bytes_eq}
 use Rattle.elf_model.specs.Image.MemoryImage.{Encloses, first_address, loads}
 use Rattle.elf_model.specs.Link.LinkerNames.{BoundName, bound_name, fixed_bound, is_start_name, is_stop_name, named_output, output_bound}
 use Rattle.elf_model.specs.Link.LinkerValues.{end_of_pieces, is_code_piece, is_file_data, is_loaded_piece, is_zero_data, start_of_pieces}
-use Rattle.elf_model.specs.Link.Pieces.{Piece, has_flag, is_of_output}
+use Rattle.elf_model.specs.Link.Pieces.{Piece, has_flag, is_of_output, same_output}
 use Rattle.elf_model.specs.Link.Placement.{Covers}
 use Rattle.elf_model.specs.declared.bound.Bound.{Bound}
 use Rattle.elf_model.specs.declared.constants.TheConstants.{PF_W}
@@ -14,7 +14,7 @@ use Rattle.elf_model.specs.declared.bound.Bound.TheVariants.{CodeEnd, DataEnd, G
 use Rattle.elf_model.specs.declared.records.ProgramHeader.{ProgramHeader}
 use Rattle.judge_model.specs.Certificates.{NameRow, value_of_name}
 use Rattle.elf_model.specs.Link.Meaning.{object_meaning}
-use Rattle.judge_model.specs.Links.{ForeignLink, has_output, objects_of, placed_of}
+use Rattle.judge_model.specs.Links.{ForeignLink, has_output, objects_of, pieces_of, placed_of}
 use Rattle.judge_model.specs.Memory.{IsInReach, address_limit}
 use Rattle.judge_model.specs.Placed.{things_of}
 
@@ -62,8 +62,15 @@ is_small_data p = is_file_data p && not (has_flag shf_x86_64_large p.header)
 abbrev pub IsDataEnd : ForeignLink → ℕ → Type 0
 IsDataEnd l v = IsEnd l (end_of_pieces is_file_data (placed_of l)) v ⊎ IsEnd l (end_of_pieces is_small_data (placed_of l)) v
 
--- where zeros begin: at the least address of some, or before it on the pages of a segment that is written and behind whatever
--- comes before; where there are none at the end of data
+-- Where zeros begin, that is sections of them which aren't empty: at the least address of these, or before it on the pages of a
+-- segment that is written and behind whatever comes before. Where there are none, at the end of data or where an empty section of
+-- zeros is, but behind all data, and where there are no data either behind all sections: programs clear from there to the end of all.
+abbrev pub is_some_zeros : Piece → Bool
+is_some_zeros p = is_zero_data p && nat_lt 0 p.size
+
+abbrev pub is_some_small_data : Piece → Bool
+is_some_small_data p = is_small_data p && nat_lt 0 p.size
+
 abbrev pub HasPages : ℕ → ℕ → ProgramHeader → Type 0
 HasPages start v h =
     (h.p_vaddr / 4096 * 4096 ≤ v) × (start ≤ h.p_vaddr + h.p_memsz) × (bit_and h.p_flags PF_W ≡ PF_W)
@@ -73,8 +80,13 @@ pub record IsAhead (l : ForeignLink) (start v : ℕ) : Type 0 where
   pub inside : Any (HasPages start v) (loads l.image)
   pub clear : IsClear l v start
 
+pub record IsStartOfNoZeros (l : ForeignLink) (v : ℕ) : Type 0 where
+  pub at : IsDataEnd l v ⊎ (start_of_pieces is_zero_data (placed_of l) ≡ Some v)
+  pub behind : end_of_pieces is_some_small_data (placed_of l) ≤ v
+  pub alone : end_of_pieces is_some_small_data (placed_of l) ≡ 0 → end_of_pieces is_loaded_piece (placed_of l) ≤ v
+
 abbrev pub IsZeroStart : ForeignLink → ℕ → Option ℕ → Type 0
-IsZeroStart l v None = IsDataEnd l v
+IsZeroStart l v None = IsStartOfNoZeros l v
 IsZeroStart l v (Some start) = (v ≡ start) ⊎ IsAhead l start v
 
 -- the end of all: of every section, block and note (slots are judged with the fill), and not far behind the last segment
@@ -102,7 +114,7 @@ abbrev pub IsBoundAt : ForeignLink → List ℕ → ℕ → Bound → Type 0
 IsBoundAt l name v ImageStart = v ≡ first_address (loads l.image)
 IsBoundAt l name v CodeEnd = IsCodeEnd l (end_of_pieces is_code_piece (placed_of l)) v
 IsBoundAt l name v DataEnd = IsDataEnd l v
-IsBoundAt l name v ZeroStart = IsZeroStart l v (start_of_pieces is_zero_data (placed_of l))
+IsBoundAt l name v ZeroStart = IsZeroStart l v (start_of_pieces is_some_zeros (placed_of l))
 IsBoundAt l name v ImageEnd = IsImageEnd l v
 IsBoundAt l name v GotStart = l.certificate.got ≡ Some v
 IsBoundAt l name v OutputStart = IsStartOf l (named_output name) v
@@ -111,6 +123,20 @@ IsBoundAt l name v OutputEnd = IsEndOf l (named_output name) v
 -- an object's definition of a name comes before the linker's
 abbrev pub IsBoundRight : ForeignLink → NameRow → Type 0
 IsBoundRight l row = object_meaning (objects_of l) row.name ≡ None → IfSome (bound_of l row.name) (IsBoundAt l row.name row.value)
+
+-- The sections between the two names for the beginning and the end of an output name are one run: the image has none of that name
+-- that differ in WRITE, EXECINSTR, TLS or NOBITS, and so may be apart. This is asked of inputs.
+abbrev pub IsOneRun : ForeignLink → List ℕ → Type 0
+IsOneRun l output =
+    AllPairs (λ p q. is_of_output output p ≡ true → is_of_output output q ≡ true → same_output p q ≡ true) (pieces_of l)
+
+abbrev pub IsBoundOfOne : ForeignLink → List ℕ → Bound → Type 0
+IsBoundOfOne l name OutputStart = IsOneRun l (named_output name)
+IsBoundOfOne l name OutputEnd = IsOneRun l (named_output name)
+IsBoundOfOne l name _ = Unit {0}
+
+abbrev pub IsUnmixed : ForeignLink → NameRow → Type 0
+IsUnmixed l row = object_meaning (objects_of l) row.name ≡ None → IfSome (bound_of l row.name) (IsBoundOfOne l row.name)
 
 -- two names for the beginning and the end of one array, of which the image has nothing, have one value
 pub record Pair : Type 0 where

@@ -1,4 +1,6 @@
 mod ClearSteps
+mod MixedLaw
 mod NameLaw
 mod RowLaw
 mod SlotLaw
+mod SlotSteps

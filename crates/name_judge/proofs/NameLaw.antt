@@ -6,7 +6,7 @@ use Rattle.std.specs.BTreeMap.{BTreeMap}
 use Rattle.std.proofs.lemmas.List.Elements.{All-cons, All-head, All-nil, All-tail, All-weaker}
 use Rattle.elf_model.specs.Image.MemoryImage.{loads}
 use Rattle.elf_model.specs.Link.LinkerNames.{named_output}
-use Rattle.elf_model.specs.Link.LinkerValues.{end_of_pieces, is_code_piece, is_file_data}
+use Rattle.elf_model.specs.Link.LinkerValues.{end_of_pieces, is_code_piece, is_file_data, is_zero_data, start_of_pieces}
 use Rattle.elf_model.specs.Link.Placement.{Covers}
 use Rattle.elf_model.specs.declared.bound.Bound.{Bound}
 use Rattle.elf_model.specs.declared.bound.Bound.TheVariants.{CodeEnd, DataEnd, GotStart, ImageEnd, ImageStart, OutputEnd, OutputStart, ZeroStart}
@@ -98,7 +98,28 @@ module _ (l : ForeignLink) where
     zeros_iff :
         (start : Option ℕ) (v : ℕ) → IfSome start (λ a. IsLastIn (things_of l) a m.zero_last) →
         ZerosStart (loads l.image) m start v ↔ IsZeroStart l v start
-    zeros_iff None v are = data_iff v
+    zeros_iff None v are = (
+      λ h. record {
+        at = at_to h.at;
+        behind = subst (λ (n : ℕ). n ≤ v) marks.some_end h.kept.behind;
+        alone = λ none. subst (λ (n : ℕ). n ≤ v) marks.image_end (h.kept.alone (marks.some_end ∙ none));
+      },
+      λ h. record {
+        at = at_of h.at;
+        kept = record {
+          behind = subst (λ (n : ℕ). n ≤ v) (sym marks.some_end) h.behind;
+          alone = λ none. subst (λ (n : ℕ). n ≤ v) (sym marks.image_end) (h.alone (sym marks.some_end ∙ none));
+        };
+      },
+    )
+      where
+        at_to : DataEndsAt (loads l.image) m v ⊎ (m.empty_start ≡ Some v) → IsDataEnd l v ⊎ (start_of_pieces is_zero_data (placed_of l) ≡ Some v)
+        at_to (inl e) = inl ((data_iff v).0 e)
+        at_to (inr e) = inr (sym marks.empty_start ∙ e)
+
+        at_of : IsDataEnd l v ⊎ (start_of_pieces is_zero_data (placed_of l) ≡ Some v) → DataEndsAt (loads l.image) m v ⊎ (m.empty_start ≡ Some v)
+        at_of (inl e) = inl ((data_iff v).1 e)
+        at_of (inr e) = inr (marks.empty_start ∙ e)
     zeros_iff (Some start) v are = (to, from)
       where
         to : BeginsAt (loads l.image) start m.zero_last v → IsZeroStart l v (Some start)

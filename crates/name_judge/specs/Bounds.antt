@@ -16,7 +16,7 @@ use Rattle.check_link.specs.Outputs.{start_of}
 use Rattle.check_link.specs.declared.bounds.Span.{Span}
 use Rattle.judge_model.specs.Certificates.{NameRow, value_of_name}
 use Rattle.judge_model.specs.Memory.{address_limit}
-use Rattle.judge_model.specs.Names.{EndsSegment, HasPages, is_small_data}
+use Rattle.judge_model.specs.Names.{EndsSegment, HasPages, is_small_data, is_some_small_data, is_some_zeros}
 use Rattle.judge_model.specs.declared.certificate.NoteLine.{NoteLine}
 use Rattle.link_fields.specs.Parts.{Parts, bound_of}
 use Rattle.name_judge.specs.Clear.{IsEndOfNotes, IsFrom, IsLastIn, IsNextIn, IsUpTo}
@@ -30,8 +30,10 @@ pub record AreMarks (hs : List ProgramHeader) (qs : List Placed) (ts : List Thin
   pub data_next : IsNextIn ts m.data_end m.data_next
   pub small_end : m.small_end ≡ end_of_pieces is_small_data qs
   pub small_next : IsNextIn ts m.small_end m.small_next
-  pub zero_start : m.zero_start ≡ start_of_pieces is_zero_data qs
+  pub zero_start : m.zero_start ≡ start_of_pieces is_some_zeros qs
   pub zero_last : IfSome m.zero_start (λ a. IsLastIn ts a m.zero_last)
+  pub empty_start : m.empty_start ≡ start_of_pieces is_zero_data qs
+  pub some_end : m.some_end ≡ end_of_pieces is_some_small_data qs
   pub image_end : m.image_end ≡ end_of_pieces is_loaded_piece qs
   pub notes_end : IsEndOfNotes ns m.notes_end
   pub limit : m.limit ≡ address_limit hs
@@ -67,7 +69,8 @@ abbrev pub IsNowhereIn : List ProgramHeader → Marks → ℕ → Type 0
 IsNowhereIn hs m v = (v ≡ 0) ⊎ IsReached hs m v
 
 -- where zeros begin, or before that on the pages of a segment that is written and behind whatever comes before; where there
--- are none at the end of data
+-- are none at the end of data or where an empty section of zeros is, behind all data, and behind all sections where there are none of
+-- these either
 pub record IsAheadMark (hs : List ProgramHeader) (start : ℕ) (last : Option ℕ) (v : ℕ) : Type 0 where
   pub ahead : v ≤ start
   pub inside : Any (HasPages start v) hs
@@ -76,8 +79,19 @@ pub record IsAheadMark (hs : List ProgramHeader) (start : ℕ) (last : Option �
 abbrev pub BeginsAt : List ProgramHeader → ℕ → Option ℕ → ℕ → Type 0
 BeginsAt hs start last v = (v ≡ start) ⊎ IsAheadMark hs start last v
 
+pub record IsBehindData (m : Marks) (v : ℕ) : Type 0 where
+  pub behind : m.some_end ≤ v
+  pub alone : m.some_end ≡ 0 → m.image_end ≤ v
+
+abbrev pub IsAtNone : List ProgramHeader → Marks → ℕ → Type 0
+IsAtNone hs m v = DataEndsAt hs m v ⊎ (m.empty_start ≡ Some v)
+
+pub record StartsNoZeros (hs : List ProgramHeader) (m : Marks) (v : ℕ) : Type 0 where
+  pub at : IsAtNone hs m v
+  pub kept : IsBehindData m v
+
 abbrev pub ZerosStart : List ProgramHeader → Marks → Option ℕ → ℕ → Type 0
-ZerosStart hs m None v = DataEndsAt hs m v
+ZerosStart hs m None v = StartsNoZeros hs m v
 ZerosStart hs m (Some start) v = BeginsAt hs start m.zero_last v
 
 pub record IsEndOfAll (m : Marks) (v : ℕ) : Type 0 where
@@ -129,6 +143,11 @@ pub record AreNamesBy (p : Parts) (m : Marks) (spans : BTreeMap (Bor (List ℕ))
   pub rows : All (IsRowRight p m spans) p.rows
   pub pairs : ArePairsOne p spans
 
--- the name for the end of all is behind slots that end at or below an address
-pub record IsRowBehind (p : Parts) (end : ℕ) (row : NameRow) : Type 0 where
-  pub behind : object_meaning p.objects row.name ≡ None → bound_of p.pieces row.name ≡ Some ImageEnd → end ≤ row.value
+-- the name for the end of all is at or behind an address, and so is that for where zeros begin, at or behind another
+abbrev pub end_for : ℕ → ℕ → Bound → ℕ
+end_for all before ImageEnd = all
+end_for all before ZeroStart = before
+end_for all before _ = 0
+
+pub record IsRowBehind (p : Parts) (all before : ℕ) (row : NameRow) : Type 0 where
+  pub behind : object_meaning p.objects row.name ≡ None → IfSome (bound_of p.pieces row.name) (λ b. end_for all before b ≤ row.value)

@@ -1,8 +1,9 @@
 -- Addresses between which nothing takes up memory.
-use Rattle.std.specs.Prelude.{◌↔◌, ℕ, ◌+◌, ◌^◌, ◌<◌, ◌≤◌, List, All, IfSome, Option}
+use Rattle.std.specs.Prelude.{◌↔◌, ℕ, ◌+◌, ◌^◌, ◌<◌, ◌≤◌, List, All, IfSome, None, Option, Some}
 use Rattle.elf_model.specs.Link.Placement.{Covers}
 use Rattle.elf_model.specs.declared.records.ProgramHeader.{ProgramHeader}
 use Rattle.elf_model.specs.declared.thing.Thing.{Thing}
+use Rattle.judge_model.specs.Fill.{IsBeforeZeros}
 use Rattle.judge_model.specs.declared.certificate.NoteLine.{NoteLine}
 
 -- a thing covers no address from one on and below another one
@@ -34,9 +35,14 @@ pub record IsEndOfNotes (ns : List NoteLine) (end : ℕ) : Type 0 where
 pub record IsLowEnd (h : ProgramHeader) : Type 0 where
   pub low : h.p_vaddr + h.p_memsz ≤ 2 ^ 47
 
--- a slot ends at or below an address; the greatest end of slots
-pub record IsSlotBy (v at : ℕ) : Type 0 where
-  pub end : at + 8 ≤ v
+-- an address is where zeros begin or behind, where there are any
+abbrev pub IsInZeros : Option ℕ → ℕ → Type 0
+IsInZeros None at = ⊥
+IsInZeros (Some start) at = start ≤ at
 
-pub record IsEndOfSlots (slots : List ℕ) (end : ℕ) : Type 0 where
-  pub told : (v : ℕ) → (end ≤ v) ↔ All (IsSlotBy v) slots
+-- a slot ends at or below an address, or begins where zeros do or behind, where there are any; the greatest end of slots that don't
+pub record IsSlotBy (zeros : Option ℕ) (v at : ℕ) : Type 0 where
+  pub end : IsBeforeZeros zeros v at
+
+pub record IsEndOfSlots (zeros : Option ℕ) (slots : List ℕ) (end : ℕ) : Type 0 where
+  pub told : (v : ℕ) → (end ≤ v) ↔ All (IsSlotBy zeros v) slots

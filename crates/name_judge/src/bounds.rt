@@ -2,7 +2,7 @@
 ghost use Rattle.std.specs.Prelude.{◌≡◌, ◌↔◌, Any, IsTrue};
 ghost use Rattle.elf_model.specs.Image.MemoryImage.{Encloses, first_address, loads};
 ghost use Rattle.judge_model.specs.Names.{EndsSegment, HasPages};
-ghost use Rattle.name_judge.specs.Bounds.{BeginsAt, CodeEndsAt, DataEndsAt, EndsAt, IsBehindMark, IsBoundBy, IsEndOfAll, IsNoEnd, IsNowhereIn, IsReached, SpanEnds, SpanStarts, ZerosStart};
+ghost use Rattle.name_judge.specs.Bounds.{BeginsAt, CodeEndsAt, DataEndsAt, EndsAt, IsAtNone, IsBehindData, IsBehindMark, IsBoundBy, IsEndOfAll, IsNoEnd, IsNowhereIn, IsReached, SpanEnds, SpanStarts, StartsNoZeros, ZerosStart};
 ghost use Rattle.name_judge.specs.Clear.{IsFrom, IsUpTo};
 
 use crate::marks::Marks;
@@ -147,13 +147,43 @@ fn begins_at(image: &ForeignImage<'_>, start: u64, last: Option<u64>, value: u64
     is_on_pages(image.segments(), start, value)
 }
 
+/// Whether an address is behind all data that aren't empty, and behind all sections where there are no such data.
+fn is_behind_data(marks: &Marks, value: u64) -> bool
+    ensures { IsTrue result ↔ IsBehindData marks.now value }
+{
+    if value < marks.some_end {
+        return false;
+    }
+    marks.some_end != 0 || marks.image_end <= value
+}
+
+/// Whether an address is at the end of data, or where an empty section of zeros is.
+fn is_at_none(image: &ForeignImage<'_>, marks: &Marks, value: u64) -> bool
+    ensures { IsTrue result ↔ IsAtNone (loads image.now) marks.now value }
+{
+    if marks.empty_start == Some(value) {
+        return true;
+    }
+    data_ends_at(image, marks, value)
+}
+
+/// Whether an address is where zeros that are none begin.
+fn starts_no_zeros(image: &ForeignImage<'_>, marks: &Marks, value: u64) -> bool
+    ensures { IsTrue result ↔ StartsNoZeros (loads image.now) marks.now value }
+{
+    if !is_behind_data(marks, value) {
+        return false;
+    }
+    is_at_none(image, marks, value)
+}
+
 /// Whether an address is where zeros begin, and at the end of data where there are none.
 fn zeros_start(image: &ForeignImage<'_>, marks: &Marks, value: u64) -> bool
     ensures { IsTrue result ↔ ZerosStart (loads image.now) marks.now marks.now.zero_start value }
 {
     match marks.zero_start {
         Some(at) => begins_at(image, at, marks.zero_last, value),
-        None => data_ends_at(image, marks, value),
+        None => starts_no_zeros(image, marks, value),
     }
 }
 

@@ -6,8 +6,11 @@ mod bounds;
 mod gaps;
 mod marks;
 mod names;
+mod nonempty;
 mod rows;
 mod slot_ends;
+mod unmixed;
 
 pub use names::are_names_right;
-pub use slot_ends::are_ends_behind_slots;
+pub use slot_ends::do_bounds_spare_slots;
+pub use unmixed::are_names_unmixed;

@@ -11,6 +11,7 @@ ghost use Rattle.name_judge.specs.Bounds.{AreMarks};
 ghost use Rattle.name_judge.specs.Clear.{IsEndOfNotes, IsLastIn, IsLowEnd};
 
 use crate::gaps::{last_in, next_in};
+use crate::nonempty::{end_of_data, start_of_zeros};
 use check_link::{Part, Piece, Placed, end_of, start_of};
 use elf_model::{ProgramHeader, Thing};
 use foreign_image::ForeignImage;
@@ -23,8 +24,9 @@ const MARGIN: u64 = 2 * (1 << 21);
 const SHF_X86_64_LARGE: u64 = 0x1000_0000;
 
 /// The greatest ends of code, of data in the file and of what isn't large of these, and the least address behind each that
-/// anything covers; where zeros begin, and the end of what comes before; the greatest ends of all and of the linker's notes;
-/// and the greatest address that a name may have.
+/// anything covers; where zeros begin, and the end of what comes before; the least address of sections of zeros, empty ones too; the
+/// greatest end of data that aren't empty; the greatest ends of all and of the linker's notes; and the greatest address that a
+/// name may have.
 #[derive(Clone, Copy, Debug)]
 pub struct Marks {
     pub code_end: u64,
@@ -35,6 +37,8 @@ pub struct Marks {
     pub small_next: Option<u64>,
     pub zero_start: Option<u64>,
     pub zero_last: Option<u64>,
+    pub empty_start: Option<u64>,
+    pub some_end: u64,
     pub image_end: u64,
     pub notes_end: u128,
     pub limit: u64,
@@ -52,7 +56,7 @@ fn end_of_notes(notes: &[NoteLine]) -> u128
 }
 
 /// Whether a piece is of data in the file that isn't large.
-fn is_small_data(piece: &Piece<'_>) -> bool
+pub fn is_small_data(piece: &Piece<'_>) -> bool
     ensures { result ≡ is_small_data (piece_view piece.now) }
 {
     let header = &piece.header;
@@ -134,7 +138,7 @@ pub fn marks_of(
     let code_end = end_of(Part::Code, placed);
     let data_end = end_of(Part::FileData, placed);
     let small_end = end_of_small(placed);
-    let zero_start = start_of(Part::Zeros, placed);
+    let zero_start = start_of_zeros(placed);
     Marks {
         code_end,
         code_next: next_in(things, code_end),
@@ -144,6 +148,8 @@ pub fn marks_of(
         small_next: next_in(things, small_end),
         zero_start,
         zero_last: last_before(things, zero_start),
+        empty_start: start_of(Part::Zeros, placed),
+        some_end: end_of_data(placed),
         image_end: end_of(Part::Loaded, placed),
         notes_end: end_of_notes(notes),
         limit: limit_of(image),

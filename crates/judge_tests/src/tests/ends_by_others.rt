@@ -224,10 +224,63 @@ static WHOLE_PAGES: Layout = Layout {
     places: &[0x40_0e00, 0x40_1008],
 };
 
+/// LLD: code, and empty sections of data and zeros, as GNU as makes them in each object.
+static NONE_BY_LLD: Layout = Layout {
+    segments: &[
+        ProgramHeader {
+            p_filesz: 0x158,
+            p_memsz: 0x158,
+            ..HEADERS
+        },
+        ProgramHeader {
+            p_flags: 5,
+            p_vaddr: 0x20_1158,
+            p_paddr: 0x20_1158,
+            p_offset: 0x158,
+            p_filesz: 0x1e,
+            p_memsz: 0x1e,
+            ..HEADERS
+        },
+    ],
+    parts: &[
+        Part(".text", SHT_PROGBITS, CODE_FLAGS, 1, 0x1e),
+        Part(".data", SHT_PROGBITS, DATA_FLAGS, 1, 0),
+        Part(".bss", SHT_NOBITS, DATA_FLAGS, 1, 0),
+    ],
+    places: &[0x20_1158, 0x20_1158, 0x20_2176],
+};
+
+/// LLD: data, and an empty section of zeros with a large alignment behind their segment.
+static DATA_BY_LLD: Layout = Layout {
+    segments: &[
+        ProgramHeader {
+            p_filesz: 0x1c8,
+            p_memsz: 0x1c8,
+            ..HEADERS
+        },
+        ProgramHeader {
+            p_flags: 6,
+            p_vaddr: 0x20_3200,
+            p_paddr: 0x20_3200,
+            p_offset: 0x200,
+            p_filesz: 0x20,
+            p_memsz: 0x20,
+            ..HEADERS
+        },
+    ],
+    parts: &[
+        Part(".data", SHT_PROGBITS, DATA_FLAGS, 1, 5),
+        Part(".bss", SHT_NOBITS, DATA_FLAGS, 64, 0),
+    ],
+    places: &[0x20_3200, 0x20_3240],
+};
+
 /// Which layout it is.
 enum Link {
     ZerosByGnu,
     CodeByLld,
+    NoneByLld,
+    DataByLld,
     DataByGnu,
     AllByGold,
     LargeByGnu,
@@ -238,6 +291,8 @@ fn layout_of(link: &Link) -> &'static Layout {
     match link {
         Link::ZerosByGnu => &ZEROS_BY_GNU,
         Link::CodeByLld => &CODE_BY_LLD,
+        Link::NoneByLld => &NONE_BY_LLD,
+        Link::DataByLld => &DATA_BY_LLD,
         Link::DataByGnu => &DATA_BY_GNU,
         Link::AllByGold => &ALL_BY_GOLD,
         Link::LargeByGnu => &LARGE_BY_GNU,
@@ -248,7 +303,7 @@ fn layout_of(link: &Link) -> &'static Layout {
 /// A layout, a name, and its value.
 struct Row(Link, &'static str, u64);
 
-static RIGHT: [Row; 24] = [
+static RIGHT: [Row; 28] = [
     Row(Link::ZerosByGnu, "_etext", 0x40_101b),
     Row(Link::ZerosByGnu, "_edata", 0x40_3008),
     Row(Link::ZerosByGnu, "__bss_start", 0x40_3008),
@@ -257,7 +312,11 @@ static RIGHT: [Row; 24] = [
     Row(Link::CodeByLld, "_etext", 0x20_1178),
     Row(Link::CodeByLld, "_edata", 0x20_2178),
     Row(Link::CodeByLld, "__bss_start", 0x20_2178),
+    Row(Link::CodeByLld, "__bss_start", 0x20_1178),
     Row(Link::CodeByLld, "_end", 0x20_2178),
+    Row(Link::NoneByLld, "__bss_start", 0x20_2176),
+    Row(Link::DataByLld, "_edata", 0x20_3220),
+    Row(Link::DataByLld, "__bss_start", 0x20_3240),
     Row(Link::DataByGnu, "_edata", 0x40_201f),
     Row(Link::DataByGnu, "__bss_start", 0x40_201f),
     Row(Link::DataByGnu, "_end", 0x40_2020),
@@ -278,13 +337,17 @@ static RIGHT: [Row; 24] = [
 /// Zeros from the page before on, data that are none, and before or far behind all segments; code up to the middle of what comes
 /// behind it, or to the end of a segment that can be written; zeros that begin with data; an end before large data that isn't
 /// that of the others; zeros from the end of a segment on that can't be written.
-static WRONG: [Row; 17] = [
+static WRONG: [Row; 21] = [
     Row(Link::ZerosByGnu, "__bss_start", 0x40_2fff),
     Row(Link::ZerosByGnu, "__bss_start", 0x40_3101),
     Row(Link::ZerosByGnu, "_edata", 0x40_3009),
     Row(Link::CodeByLld, "_edata", 0x1f_ffff),
     Row(Link::CodeByLld, "_edata", 0x60_1179),
     Row(Link::CodeByLld, "__bss_start", 0x60_1179),
+    Row(Link::CodeByLld, "__bss_start", 0x20_0000),
+    Row(Link::CodeByLld, "__bss_start", 0x20_1177),
+    Row(Link::NoneByLld, "__bss_start", 0x20_1158),
+    Row(Link::DataByLld, "__bss_start", 0x20_3200),
     Row(Link::CodeByLld, "_etext", 0x20_1177),
     Row(Link::DataByGnu, "__bss_start", 0x40_2000),
     Row(Link::DataByGnu, "__bss_start", 0),

@@ -15,7 +15,7 @@ use elf_model::{
 use foreign_image::ForeignImage;
 use judge_model::{NameLine, NoteLine};
 use link_fields::{Addresses, LinkParts};
-use name_judge::{are_ends_behind_slots, are_names_right};
+use name_judge::{are_names_right, are_names_unmixed, do_bounds_spare_slots};
 use std::alloc::{AllocError, Global};
 use std::test::Fail;
 use thread_judge::are_low;
@@ -147,8 +147,8 @@ fn are_right<'a>(
                 rows,
                 got: GOT,
             };
-            let behind = are_ends_behind_slots(&parts, slots);
-            Ok(Some(are_names_right(alloc, &parts, &things, notes)? && behind))
+            let spared = do_bounds_spare_slots(&parts, slots);
+            Ok(Some(are_names_right(alloc, &parts, &things, notes)? && spared))
         }
         None => Ok(None),
     }
@@ -297,5 +297,70 @@ fn the_end_is_behind_slots(rt: HostRuntime) -> Result<(), Fail> {
     let behind = judged_by(rt.alloc(), &OWN, &end, &[], &[0x20_1100, 0x20_10f8])?;
     let other = judged_by(rt.alloc(), &OWN, &data, &[], &[0x20_1100])?;
     assert!(rt; (before, behind, other) == (Some(true), Some(false), Some(true)));
+    Ok(())
+}
+
+/// A program that clears from `__bss_start` on keeps what its slots hold: they end there, or are among the zeros.
+#[test]
+fn zeros_begin_behind_slots(rt: HostRuntime) -> Result<(), Fail> {
+    let ahead = lines(rt.alloc(), &[("__bss_start", 0x20_10f8)])?;
+    let exact = lines(rt.alloc(), &[("__bss_start", 0x20_1100)])?;
+    let cleared = judged_by(rt.alloc(), &OWN, &ahead, &[], &[0x20_10f8])?;
+    let kept = judged_by(rt.alloc(), &OWN, &exact, &[], &[0x20_10f8])?;
+    let among = judged_by(rt.alloc(), &OWN, &ahead, &[], &[0x20_1100])?;
+    assert!(rt; (cleared, kept, among) == (Some(false), Some(true), Some(true)));
+    Ok(())
+}
+
+/// Whether lines of names speak of one run each, in an object that has these sections.
+fn are_unmixed(alloc: Global, parts: &'static [Part], rows: &[NameLine]) -> Result<bool, Fail> {
+    let bytes = object(alloc, parts, &[Named("__start_own", 0x10, 1, 0)])?;
+    let files = file(alloc, bytes)?;
+    let words = words(alloc)?;
+    let NamedObjects { objects, names } = loaded(alloc, &words, &files)?;
+    Ok(unmixed(alloc, &objects, names, rows)?)
+}
+
+fn unmixed<'a>(
+    alloc: Global,
+    objects: &[Loaded<'a>],
+    table: NameTable<'a>,
+    rows: &[NameLine],
+) -> Result<bool, AllocError>
+    requires { AreNumbered table objects.now }
+{
+    let names = Names::new(alloc, objects, table)?;
+    let pieces = pieces_of(alloc, objects)?;
+    let outputs = Outputs::new(alloc, &pieces)?;
+    Ok(are_names_unmixed(&names, &outputs, rows))
+}
+
+/// Sections of one name that differ in their flags, as mold puts them apart.
+static MIXED: [Part; 5] = [
+    Part("set", SHT_PROGBITS, SHF_ALLOC, 8, 8),
+    Part("set", SHT_PROGBITS, SHF_ALLOC + SHF_WRITE, 8, 8),
+    Part("own", SHT_PROGBITS, SHF_ALLOC, 8, 8),
+    Part("own", SHT_PROGBITS, SHF_ALLOC + SHF_WRITE, 8, 8),
+    Part("one", SHT_PROGBITS, SHF_ALLOC, 8, 8),
+];
+
+/// Each name, and whether it speaks of one run: those that objects define, and those of ends, are no names of runs.
+static RUNS: [(&str, bool); 6] = [
+    ("__start_set", false),
+    ("__stop_set", false),
+    ("__stop_own", false),
+    ("__start_own", true),
+    ("__start_one", true),
+    ("_end", true),
+];
+
+#[test]
+fn names_speak_of_one_run(rt: HostRuntime) -> Result<(), Fail> {
+    let mut all = true;
+    for row in &RUNS {
+        let rows = lines(rt.alloc(), &[(row.0, 0)])?;
+        all = are_unmixed(rt.alloc(), &MIXED, &rows)? == row.1 && all;
+    }
+    assert!(rt; all);
     Ok(())
 }

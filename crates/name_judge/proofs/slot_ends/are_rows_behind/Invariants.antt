@@ -6,4 +6,4 @@ use Rattle.name_judge.proofs.slot_ends.are_rows_behind.Given as goal
 
 abbrev pub invariant-loop-row : goal.invariant-loop-row
 invariant-loop-row l =
-    All (λ r. IsRowBehind l.parts l.end (name_row r)) l.rows ↔ All (λ r. IsRowBehind l.parts l.end (name_row r)) (drop l.row-index l.rows)
+    All (λ r. IsRowBehind l.parts l.all l.before (name_row r)) l.rows ↔ All (λ r. IsRowBehind l.parts l.all l.before (name_row r)) (drop l.row-index l.rows)
