@@ -40,7 +40,7 @@ abbrev pub relocations_of : ForeignLink → List Relocation
 relocations_of l = filter (is_in_image_too l) (relocations (objects_of l))
 
 -- Sections that linkers edit: strings and constants that may be merged, call frames, property notes. All others are plain,
--- and so are those of the first two kinds that have a place line.
+-- and so are those that have a place line, which a link that is judged gives the first two kinds alone.
 abbrev pub is_relocated : ForeignLink → Piece → Bool
 is_relocated l p = list_any (λ r. r.object == p.object && r.section == p.section) (relocations (objects_of l))
 

@@ -1,16 +1,18 @@
 -- What a right link of another linker is: thirteen requirements on the words, the files, the image and a certificate. None
 -- of them says how a linker lays anything out.
 use Rattle.std.specs.Prelude.{List, ℕ, ◌≡◌, ◌%◌, ◌&&◌, ◌||◌, Bool, true, false, not, Some, All, AllPairs, IsSomeAnd, codes, nat_eq}
+use Rattle.elf_model.specs.Image.MemoryImage.{program_headers}
 use Rattle.elf_model.specs.Inputs.Files.{File}
 use Rattle.elf_model.specs.Inputs.Records.{file_header}
 use Rattle.elf_model.specs.Link.Pieces.{Piece}
 use Rattle.elf_model.specs.Link.Resolution.{AreUnique, AreSoundCommons, is_in_thread_section, chosen}
 use Rattle.elf_model.specs.Link.Meaning.{object_meaning}
+use Rattle.elf_model.specs.declared.records.ProgramHeader.{ProgramHeader}
 use Rattle.judge_model.specs.Fields.{AreFieldsApart, HoldsRest, IsFieldRight, IsInside}
 use Rattle.judge_model.specs.Fill.{IsFilled}
-use Rattle.judge_model.specs.Headers.{AreHeadersRight}
+use Rattle.judge_model.specs.Headers.{AreHeadersRight, pt_gnu_eh_frame}
 use Rattle.judge_model.specs.Kept.{IsKept}
-use Rattle.judge_model.specs.Links.{ForeignLink, is_frames, is_mergeable, is_placed, objects_of, pieces_of, placed_of, relocations_of}
+use Rattle.judge_model.specs.Links.{ForeignLink, is_frames, is_mergeable, is_placed, is_property, objects_of, pieces_of, placed_of, relocations_of}
 use Rattle.judge_model.specs.Loaded.{AreReadable}
 use Rattle.judge_model.specs.Loaded as loaded
 use Rattle.std.specs.List.{list_any, starts_with}
@@ -18,7 +20,7 @@ use Rattle.elf_model.specs.Inputs.ObjectFile.{name_of_section, sections}
 use Rattle.elf_model.specs.Link.Loading.{LoadedObject}
 use Rattle.elf_model.specs.Link.Pieces.{is_gathered_by}
 use Rattle.judge_model.specs.Means.{value_of}
-use Rattle.judge_model.specs.Names.{AreNamesRight}
+use Rattle.judge_model.specs.Names.{AreNamesRight, IsUnmixed}
 use Rattle.judge_model.specs.Notes.{AreNotesRight}
 use Rattle.judge_model.specs.Placed as placed
 use Rattle.judge_model.specs.Runs.{array_names}
@@ -55,9 +57,10 @@ Holds F13 l = HasTables l.image → AreTablesRight l
 
 -- What isn't judged: links whose inputs leave open what is right. Files, archives and objects that can't be read, as those of
 -- other machines or with IFUNC symbols; objects for link-time optimization; two strong definitions of a name, unless the words ask for the first; a common symbol
--- that isn't sound; fields that leave their section or overlap; arrays of functions that gaps would break; and, until they
+-- that isn't sound; fields that leave their section or overlap; arrays of functions that gaps would break; names for where an
+-- output name begins and ends whose sections are not of one run; a line for a property note, which linkers join; and, until they
 -- are judged too, strings and constants that may be merged, and call frames, without a line that says where they are
--- unedited.
+-- unedited, and a table of frames.
 abbrev pub is_edited : ForeignLink → Piece → Bool
 is_edited l p = not (is_placed l p) && (is_mergeable l p || is_frames p)
 
@@ -71,6 +74,12 @@ IsWholeArray p = is_of_array p ≡ true → (p.align ≡ 8) × (p.size % 8 ≡ 0
 abbrev pub is_lto : LoadedObject → Bool
 is_lto o = list_any (λ h. starts_with nat_eq (name_of_section o.bytes h) (codes ".gnu.lto_")) (sections o.bytes)
 
+abbrev pub IsJoined : ForeignLink → Piece → Type 0
+IsJoined l p = is_property p ≡ true → is_placed l p ≡ false
+
+abbrev pub IsNoFrameTable : ProgramHeader → Type 0
+IsNoFrameTable h = ¬ (h.p_type ≡ pt_gnu_eh_frame)
+
 pub record IsJudged (l : ForeignLink) : Type 0 where
   pub compiled : All (λ o. is_lto o ≡ false) (objects_of l)
   pub readable : AreReadable l.files l.plan.plan
@@ -80,6 +89,9 @@ pub record IsJudged (l : ForeignLink) : Type 0 where
   pub inside : All IsInside (relocations_of l)
   pub apart : AllPairs AreFieldsApart (relocations_of l)
   pub unedited : All (λ p. is_edited l p ≡ false) (pieces_of l)
+  pub joined : All (IsJoined l) (pieces_of l)
+  pub unmixed : All (IsUnmixed l) l.certificate.names
+  pub untabled : All IsNoFrameTable (program_headers l.image)
 
 -- A right link by its certificate; and a right link: one for which there is such a certificate.
 pub record IsShown (l : ForeignLink) : Type 0 where

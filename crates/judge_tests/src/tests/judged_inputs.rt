@@ -2,14 +2,17 @@
 //! whole (System V gABI 4, .init_array), what linkers edit (SHF_MERGE, .eh_frame), fields beyond their sections (AMD64 psABI 4.4).
 ghost use Rattle.check_load.specs.Numbered.{AreNumbered};
 
+use crate::tests::images::{CODE, HEADERS};
 use crate::tests::sample_objects::{Named, Part, file, loaded, object, words};
 use check_link::{Names, Piece};
 use check_load::NamedObjects;
 use elf_model::{
-    DropLine, PlaceLine, SHF_ALLOC, SHF_EXECINSTR, SHF_MERGE, SHT_PROGBITS, SHT_RELA, SectionHeader,
+    DropLine, PlaceLine, ProgramHeader, SHF_ALLOC, SHF_EXECINSTR, SHF_MERGE, SHT_PROGBITS,
+    SHT_RELA, SectionHeader,
 };
 use input_judge::{
-    are_arrays_whole, are_compiled, are_fields_apart, are_fields_inside, are_unedited, are_unique,
+    are_arrays_whole, are_compiled, are_fields_apart, are_fields_inside, are_notes_joined,
+    are_unedited, are_unique, has_no_frame_table,
 };
 use link_fields::Drops;
 use std::alloc::Global;
@@ -157,28 +160,76 @@ static EDITED: [(&str, u64, u64); 4] = [
     (".eh_frame", SHF_ALLOC + SHF_MERGE, 1),
 ];
 
-/// Whether linkers leave section 2 of object 1 as it is, which is no object's that is loaded, given one line.
-fn is_plain(alloc: Global, row: &(&'static str, u64, u64), line: (u64, u64)) -> Result<bool, Fail> {
+/// Section 2 of object 1.
+fn section(row: &(&'static str, u64, u64)) -> Piece<'static> {
     let header = SectionHeader {
         sh_flags: row.1,
         sh_entsize: row.2,
         ..SectionHeader::NULL
     };
-    let piece = Piece {
+    Piece {
         object: 1,
         section: 2,
         header,
         name: row.0.as_bytes(),
         bytes: &[],
-    };
-    let place = PlaceLine {
+    }
+}
+
+/// The line of a section of an object.
+fn line_at(alloc: Global, line: (u64, u64)) -> PlaceLine {
+    PlaceLine {
         address: 0x20_1000,
         size: 8,
         object: line.0,
         section: line.1,
         name: Vec::new(alloc),
-    };
+    }
+}
+
+/// Whether linkers leave section 2 of object 1 as it is, which is no object's that is loaded, given one line.
+fn is_plain(alloc: Global, row: &(&'static str, u64, u64), line: (u64, u64)) -> Result<bool, Fail> {
+    let piece = section(row);
+    let place = line_at(alloc, line);
     Ok(are_unedited(alloc, &[], &[piece], &[place])?)
+}
+
+/// Whether a property note has no line, given one line.
+fn is_joined(
+    alloc: Global,
+    row: &(&'static str, u64, u64),
+    line: (u64, u64),
+) -> Result<bool, Fail> {
+    let piece = section(row);
+    let place = line_at(alloc, line);
+    Ok(are_notes_joined(alloc, &[piece], &[place])?)
+}
+
+/// Linkers join the property notes of objects, so that none may stand for all (Linux Extensions to gABI, "Program Property").
+#[test]
+fn property_notes_have_no_lines(rt: HostRuntime) -> Result<(), Fail> {
+    let note = (".note.gnu.property", SHF_ALLOC, 0);
+    let other = (".note.ABI-tag", SHF_ALLOC, 0);
+    let told = (
+        is_joined(rt.alloc(), &note, (1, 2))?,
+        is_joined(rt.alloc(), &note, (2, 1))?,
+        is_joined(rt.alloc(), &other, (1, 2))?,
+    );
+    assert!(rt; told == (false, true, true));
+    Ok(())
+}
+
+/// No table of frames is judged yet.
+#[test]
+fn tables_of_frames_are_told(rt: HostRuntime) -> Result<(), Fail> {
+    let table = ProgramHeader {
+        p_type: 0x6474_e550,
+        ..CODE
+    };
+    assert!(rt; has_no_frame_table(&[HEADERS, CODE]));
+    assert!(rt; !has_no_frame_table(&[HEADERS, CODE, table]));
+    assert!(rt; !has_no_frame_table(&[table, HEADERS, CODE]));
+    Ok(())
 }
 
 #[test]
