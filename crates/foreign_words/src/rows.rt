@@ -119,7 +119,7 @@ static KEYWORDS: [Row; 17] = [
 ];
 
 /// The words.
-static ROWS: [Row; 61] = [
+static ROWS: [Row; 64] = [
     Row {
         text: "-o",
         form: Form::Next(Value::Text(Text::Output)),
@@ -298,6 +298,18 @@ static ROWS: [Row; 61] = [
     },
     Row {
         text: "--push-state",
+        form: Form::Alone(Switch::Nothing),
+    },
+    Row {
+        text: "--pop-state",
+        form: Form::Alone(Switch::Nothing),
+    },
+    Row {
+        text: "--eh-frame-hdr",
+        form: Form::Alone(Switch::Nothing),
+    },
+    Row {
+        text: "--no-eh-frame-hdr",
         form: Form::Alone(Switch::Nothing),
     },
     Row {

@@ -41,7 +41,7 @@ const PLAIN: Asked = Asked {
 };
 
 /// Words, and what they ask for; None where they are none that is judged.
-static ROWS: [(&str, Option<Asked>); 18] = [
+static ROWS: [(&str, Option<Asked>); 20] = [
     ("a.o b.o", Some(PLAIN)),
     // As gcc -static hands them on, with two libraries in a group.
     (
@@ -102,7 +102,13 @@ static ROWS: [(&str, Option<Asked>); 18] = [
             ..PLAIN
         }),
     ),
+    // As rustc and g++ hand them on.
+    (
+        "--eh-frame-hdr --push-state --as-needed a.o --pop-state --no-eh-frame-hdr b.o",
+        Some(PLAIN),
+    ),
     // What is no static link, or no word of the table.
+    ("--eh-frame-hdr=no a.o b.o", None),
     ("-shared a.o", None),
     ("-pie a.o", None),
     ("-r a.o", None),
