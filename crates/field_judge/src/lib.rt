@@ -4,10 +4,15 @@
 
 mod fields;
 mod formulas;
+mod instructions;
 mod kinds;
 mod pointers;
 mod ranges;
+mod rewrites;
+mod rewritten;
 
 pub use fields::{Asked, asked_slot, is_right};
+pub use instructions::{Instruction, front_of, instruction_in};
 pub use kinds::{Formula, Kind, Range, foreign_kind};
 pub use pointers::thread_pointer;
+pub use rewritten::{is_of_kind, is_place_right};

@@ -2,7 +2,7 @@
 use Rattle.std.proofs.Common.{◌≡◌, ℕ, ◌+◌, ◌≤◌, ◌==◌, ◌&&◌, Bool, true, false, not, cond, List, [], ◌∷◌, ◌++◌, ap, arith, get_or, refl, subst, sym, ◌∙◌}
 use Rattle.std.specs.Prelude.{◌↔◌, All, AllPairs, filter}
 use Rattle.std.specs.List.{flat_map}
-use Rattle.std.proofs.lemmas.Bool.{eqb-false, eqb-true}
+use Rattle.std.proofs.lemmas.Bool.{eqb-false, eqb-true, false≢true}
 use Rattle.std.proofs.lemmas.List.Elements.{All-append, All-cons, All-filter, All-head, All-nil, All-tail, All-weaker, filter-append}
 use Rattle.std.proofs.lemmas.List.Kept.{AllPairs-cons}
 use Rattle.elf_model.proofs.Pairs.{AllPairs-append, AllPairs-head, AllPairs-nil, AllPairs-parts, AllPairs-tail}
@@ -11,7 +11,7 @@ use Rattle.elf_model.proofs.Rests.{Left}
 use Rattle.elf_model.specs.Link.Loading.{LoadedObject}
 use Rattle.elf_model.specs.Link.Relocation.{Relocation, relocations_from, relocations_of}
 use Rattle.elf_model.specs.declared.link_map.DropLine.{DropLine}
-use Rattle.judge_model.specs.Fields.{AreFieldsApart, width_of}
+use Rattle.judge_model.specs.Fields.{AreFieldsApart, place_width}
 use Rattle.input_judge.specs.Apart.{AreApart, HasByte, bytes_of_field, field_bytes, is_in_image}
 use Rattle.input_judge.specs.declared.fields_apart.FieldBytes.{FieldBytes}
 
@@ -24,24 +24,41 @@ module _ (drops : List DropLine) where
 
   -- each of them has a byte
   own_bytes : (r : Relocation) → All HasByte (bytes_of_field drops r)
-  own_bytes r = by (is_in_image drops r) (width_of r == 0) refl
+  own_bytes r = by (is_in_image drops r) (place_width r == 0) refl
     where
-      by : (b w : Bool) → (width_of r == 0) ≡ w → All HasByte (cond (b && not w) (field_bytes r ∷ []) [])
+      by : (b w : Bool) → (place_width r == 0) ≡ w → All HasByte (cond (b && not w) (field_bytes r ∷ []) [])
       by false w e = All-nil HasByte
       by true true e = All-nil HasByte
       by true false e =
-          let some = eqb-false (width_of r) 0 e in
+          let some = eqb-false (place_width r) 0 e in
           All-cons HasByte (field_bytes r) [] (omega (arith, some)) (All-nil HasByte)
+
+  -- those of one relocation
+  pub no_bytes : (r : Relocation) → place_width r ≡ 0 → bytes_of_field drops r ≡ []
+  no_bytes r none = by (is_in_image drops r) (place_width r == 0) refl
+    where
+      by : (b w : Bool) → (place_width r == 0) ≡ w → cond (b && not w) (field_bytes r ∷ []) [] ≡ []
+      by false w e = refl
+      by true true e = refl
+      by true false e = absurd (eqb-false (place_width r) 0 e none)
+
+  pub some_bytes : (r : Relocation) → is_in_image drops r ≡ true → (place_width r ≡ 0 → ⊥) → bytes_of_field drops r ≡ field_bytes r ∷ []
+  some_bytes r kept some = by (is_in_image drops r) (place_width r == 0) kept refl
+    where
+      by : (b w : Bool) → b ≡ true → (place_width r == 0) ≡ w → cond (b && not w) (field_bytes r ∷ []) [] ≡ field_bytes r ∷ []
+      by false w k e = absurd (false≢true k)
+      by true true k e = absurd (some (eqb-true (place_width r) 0 e))
+      by true false k e = refl
 
   pub have_bytes : (rs : List Relocation) → All HasByte (fields rs)
   have_bytes [] = All-nil HasByte
   have_bytes (r ∷ rs) = All-append HasByte (bytes_of_field drops r) (fields rs) (own_bytes r) (have_bytes rs)
 
-  -- a field without a byte is apart from all
-  empty_left : (r s : Relocation) → width_of r ≡ 0 → AreFieldsApart r s
+  -- a place without a byte is apart from all
+  empty_left : (r s : Relocation) → place_width r ≡ 0 → AreFieldsApart r s
   empty_left r s none object section k in_r in_s = let a = in_r.0 in let b = in_r.1 in omega (arith, a, b, none)
 
-  empty_right : (r s : Relocation) → width_of s ≡ 0 → AreFieldsApart r s
+  empty_right : (r s : Relocation) → place_width s ≡ 0 → AreFieldsApart r s
   empty_right r s none object section k in_r in_s = let a = in_s.0 in let b = in_s.1 in omega (arith, a, b, none)
 
   module _ (number : ℕ) where
@@ -51,12 +68,12 @@ module _ (drops : List DropLine) where
     -- one field and others
     cross_to : (r : Relocation) (ss : List Relocation) → All (AreApart (field_bytes r)) (fields ss) → All (AreFieldsApart r) (kept ss)
     cross_to r [] all = All-nil (AreFieldsApart r)
-    cross_to r (s ∷ ss) all = by (is_in_image drops s) (width_of s == 0) refl all (cross_to r ss)
+    cross_to r (s ∷ ss) all = by (is_in_image drops s) (place_width s == 0) refl all (cross_to r ss)
       where
-        by : (b w : Bool) → (width_of s == 0) ≡ w → All (AreApart (field_bytes r)) (cond (b && not w) (field_bytes s ∷ []) [] ++ fields ss) →
+        by : (b w : Bool) → (place_width s == 0) ≡ w → All (AreApart (field_bytes r)) (cond (b && not w) (field_bytes s ∷ []) [] ++ fields ss) →
             (All (AreApart (field_bytes r)) (fields ss) → All (AreFieldsApart r) (kept ss)) → All (AreFieldsApart r) (cond b (s ∷ kept ss) (kept ss))
         by false w e h rest = rest h
-        by true true e h rest = All-cons (AreFieldsApart r) s (kept ss) (empty_right r s (eqb-true (width_of s) 0 e)) (rest h)
+        by true true e h rest = All-cons (AreFieldsApart r) s (kept ss) (empty_right r s (eqb-true (place_width s) 0 e)) (rest h)
         by true false e h rest =
             let first = All-head (AreApart (field_bytes r)) (field_bytes s) (fields ss) h in
             All-cons (AreFieldsApart r) s (kept ss) (λ object section k in_r in_s. first section k in_r.0 in_r.1 in_s.0 in_s.1)
@@ -64,9 +81,9 @@ module _ (drops : List DropLine) where
 
     cross_back : (r : Relocation) (ss : List Relocation) → IsOwn r → All IsOwn ss → All (AreFieldsApart r) (kept ss) → All (AreApart (field_bytes r)) (fields ss)
     cross_back r [] own owns all = All-nil (AreApart (field_bytes r))
-    cross_back r (s ∷ ss) own owns all = by (is_in_image drops s) (width_of s == 0) refl all (cross_back r ss own (All-tail IsOwn s ss owns))
+    cross_back r (s ∷ ss) own owns all = by (is_in_image drops s) (place_width s == 0) refl all (cross_back r ss own (All-tail IsOwn s ss owns))
       where
-        by : (b w : Bool) → (width_of s == 0) ≡ w → All (AreFieldsApart r) (cond b (s ∷ kept ss) (kept ss)) →
+        by : (b w : Bool) → (place_width s == 0) ≡ w → All (AreFieldsApart r) (cond b (s ∷ kept ss) (kept ss)) →
             (All (AreFieldsApart r) (kept ss) → All (AreApart (field_bytes r)) (fields ss)) →
             All (AreApart (field_bytes r)) (cond (b && not w) (field_bytes s ∷ []) [] ++ fields ss)
         by false w e h rest = rest h
@@ -80,22 +97,22 @@ module _ (drops : List DropLine) where
     -- all of them
     pub pairs_to : (rs : List Relocation) → AllPairs AreApart (fields rs) → AllPairs AreFieldsApart (kept rs)
     pairs_to [] pairs = AllPairs-nil AreFieldsApart
-    pairs_to (r ∷ rs) pairs = by (is_in_image drops r) (width_of r == 0) refl pairs (pairs_to rs)
+    pairs_to (r ∷ rs) pairs = by (is_in_image drops r) (place_width r == 0) refl pairs (pairs_to rs)
       where
-        by : (b w : Bool) → (width_of r == 0) ≡ w → AllPairs AreApart (cond (b && not w) (field_bytes r ∷ []) [] ++ fields rs) →
+        by : (b w : Bool) → (place_width r == 0) ≡ w → AllPairs AreApart (cond (b && not w) (field_bytes r ∷ []) [] ++ fields rs) →
             (AllPairs AreApart (fields rs) → AllPairs AreFieldsApart (kept rs)) → AllPairs AreFieldsApart (cond b (r ∷ kept rs) (kept rs))
         by false w e h rest = rest h
         by true true e h rest =
-            AllPairs-cons AreFieldsApart r (kept rs) (λ k d low. empty_left r (get_or (kept rs) k d) (eqb-true (width_of r) 0 e)) (rest h)
+            AllPairs-cons AreFieldsApart r (kept rs) (λ k d low. empty_left r (get_or (kept rs) k d) (eqb-true (place_width r) 0 e)) (rest h)
         by true false e h rest =
             AllPairs-cons AreFieldsApart r (kept rs) (cross_to r rs (AllPairs-head AreApart (field_bytes r) (fields rs) h))
             (rest (AllPairs-tail AreApart (field_bytes r) (fields rs) h))
 
     pub pairs_back : (rs : List Relocation) → All IsOwn rs → AllPairs AreFieldsApart (kept rs) → AllPairs AreApart (fields rs)
     pairs_back [] owns pairs = AllPairs-nil AreApart
-    pairs_back (r ∷ rs) owns pairs = by (is_in_image drops r) (width_of r == 0) refl pairs (pairs_back rs (All-tail IsOwn r rs owns))
+    pairs_back (r ∷ rs) owns pairs = by (is_in_image drops r) (place_width r == 0) refl pairs (pairs_back rs (All-tail IsOwn r rs owns))
       where
-        by : (b w : Bool) → (width_of r == 0) ≡ w → AllPairs AreFieldsApart (cond b (r ∷ kept rs) (kept rs)) →
+        by : (b w : Bool) → (place_width r == 0) ≡ w → AllPairs AreFieldsApart (cond b (r ∷ kept rs) (kept rs)) →
             (AllPairs AreFieldsApart (kept rs) → AllPairs AreApart (fields rs)) → AllPairs AreApart (cond (b && not w) (field_bytes r ∷ []) [] ++ fields rs)
         by false w e h rest = rest h
         by true true e h rest = rest (AllPairs-tail AreFieldsApart r (kept rs) h)

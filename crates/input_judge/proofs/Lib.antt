@@ -3,3 +3,4 @@ pub mod CompiledLaws
 pub mod InsideLaws
 pub mod SetLaws
 pub mod UniqueLaws
+pub mod WholeLaws

@@ -1,9 +1,9 @@
--- The bytes of fields, in order and apart.
+-- The bytes of places, in order and apart.
 use Rattle.std.specs.Prelude.{◌≡◌, ◌⊎◌, ◌+◌, ◌<◌, ◌≤◌, ◌==◌, ◌&&◌, ℕ, Bool, List, [], ◌∷◌, cond, length, not, slice_index_or}
 use Rattle.elf_model.specs.Link.Relocation.{Relocation}
 use Rattle.elf_model.specs.declared.link_map.DropLine.{DropLine}
 use Rattle.judge_model.specs.Certificates.{is_left_out}
-use Rattle.judge_model.specs.Fields.{width_of}
+use Rattle.judge_model.specs.Fields.{place_start, place_width}
 use Rattle.input_judge.specs.declared.fields_apart.FieldBytes.{FieldBytes}
 
 -- the section of a relocation isn't left out
@@ -11,11 +11,11 @@ abbrev pub is_in_image : List DropLine → Relocation → Bool
 is_in_image drops r = not (is_left_out drops r.object r.section)
 
 abbrev pub field_bytes : Relocation → FieldBytes
-field_bytes r = record { at = r.entry.r_offset; section = r.section; width = width_of r }
+field_bytes r = record { at = place_start r; section = r.section; width = place_width r }
 
--- those of a relocation, where its section isn't left out and its field has any
+-- those of a relocation, where its section isn't left out and its place has any
 abbrev pub bytes_of_field : List DropLine → Relocation → List FieldBytes
-bytes_of_field drops r = cond (is_in_image drops r && not (width_of r == 0)) (field_bytes r ∷ []) []
+bytes_of_field drops r = cond (is_in_image drops r && not (place_width r == 0)) (field_bytes r ∷ []) []
 
 abbrev pub HasByte : FieldBytes → Type 0
 HasByte f = f.at < f.at + f.width

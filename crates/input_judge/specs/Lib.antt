@@ -5,3 +5,4 @@ pub mod Inside
 pub mod Joined
 pub mod SectionSets
 pub mod Unique
+pub mod WholeCode

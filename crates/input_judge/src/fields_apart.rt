@@ -1,5 +1,6 @@
-//! Whether no byte lies in the fields of two relocations (AMD64 psABI 4.4, "Relocation Types"). Those of one section may stand in
-//! any order in their table, so they are put in order.
+//! Whether no byte lies in the places of two relocations: their fields, with what an instruction has in front of one that linkers
+//! may rewrite (AMD64 psABI 4.4, "Relocation Types"). Those of one section may stand in any order in their table, so they are put
+//! in order.
 ghost use Rattle.std.specs.Prelude.{◌≡◌, ◌↔◌, ◌++◌, ℕ, All, AllPairs, IfOk, IsPermutation, IsTrue, OnOk, filter};
 ghost use Rattle.std.specs.List.{flat_map};
 ghost use Rattle.check_load.specs.KeptRelocations.{relocation_at};
@@ -10,9 +11,8 @@ ghost use Rattle.input_judge.specs.Apart.{AreApart, HasByte, IsBefore, IsOrdered
 ghost use Rattle.judge_model.specs.Fields.{AreFieldsApart};
 ghost use Rattle.judge_model.specs.Links.{ForeignLink, objects_of, relocations_of};
 
-use crate::fields_inside::width_of;
 use check_load::{KeptRelocation, Loaded};
-use link_fields::Drops;
+use link_fields::{Drops, place_of};
 use std::alloc::{AllocError, Global};
 
 /// Bytes of a section that are a relocation's: its number, the first one, counted from its beginning, and how many they are.
@@ -61,7 +61,7 @@ fn are_apart(fields: Vec<FieldBytes>) -> Result<bool, AllocError>
     Ok(rise(&fields))
 }
 
-/// Puts the bytes of the field of a relocation of object `number` behind others, unless it has none or its section is left out.
+/// Puts the bytes of the place of a relocation of object `number` behind others, unless it has none or its section is left out.
 fn add_field(
     fields: &mut Vec<FieldBytes>,
     drops: &Drops<'_>,
@@ -74,19 +74,19 @@ fn add_field(
     if drops.has(number, relocation.section as u64) {
         return Ok(());
     }
-    let width = width_of(relocation.entry.kind());
-    if width == 0 {
+    let place = place_of(&relocation.entry);
+    if place.width == 0 {
         return Ok(());
     }
     fields.push(FieldBytes {
-        at: relocation.entry.r_offset,
+        at: place.at,
         section: relocation.section,
-        width,
+        width: place.width,
     })?;
     Ok(())
 }
 
-/// The bytes of the fields of object `number`, but for those of sections that are left out.
+/// The bytes of the places of object `number`, but for those of sections that are left out.
 fn fields_of(
     alloc: Global,
     drops: &Drops<'_>,
@@ -103,7 +103,7 @@ fn fields_of(
     Ok(fields)
 }
 
-/// Whether no byte lies in the fields of two relocations of object `number`, but for those of sections that are left out.
+/// Whether no byte lies in the places of two relocations of object `number`, but for those of sections that are left out.
 fn are_own_apart(
     alloc: Global,
     drops: &Drops<'_>,
@@ -134,7 +134,7 @@ fn are_all_apart(
     Ok(true)
 }
 
-/// Whether no byte lies in the fields of two relocations of a link's objects, but for those of sections that are left out. It takes
+/// Whether no byte lies in the places of two relocations of a link's objects, but for those of sections that are left out. It takes
 /// the count of an object's relocations times its logarithm.
 ///
 /// # Errors

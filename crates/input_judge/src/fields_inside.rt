@@ -12,7 +12,7 @@ use field_judge::foreign_kind;
 use link_fields::Drops;
 
 /// The width of the field of a type in bytes; 0 of one that isn't judged.
-pub fn width_of(number: u32) -> u8
+fn width_of(number: u32) -> u8
     ensures { result ≡ unwrap_or (option_map (λ k. k.width)
         (find (λ k. k.number == number) foreign_kinds)) 0 }
 {

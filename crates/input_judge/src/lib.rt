@@ -1,6 +1,7 @@
 //! Whether the inputs of a link leave nothing open, so that it can be judged: no object for link-time optimization, one strong
-//! definition a name, whole arrays of functions, fields inside their sections and apart, nothing that linkers edit, property notes
-//! without lines (System V gABI 4; AMD64 psABI 4.4), and no table of frames.
+//! definition a name, whole arrays of functions, fields inside their sections and apart, no symbol inside an instruction that
+//! linkers may rewrite, nothing that linkers edit, property notes without lines (System V gABI 4; AMD64 psABI 4.4), and no table of
+//! frames.
 //!
 //! Whether common symbols are sound is told by `check_link::Names`, and whether names for where sections begin and end speak of one
 //! run of them by `name_judge`.
@@ -15,6 +16,7 @@ mod frame_tables;
 mod joined;
 mod section_sets;
 mod unique;
+mod whole_code;
 
 pub use arrays::are_arrays_whole;
 pub use compiled::are_compiled;
@@ -24,3 +26,4 @@ pub use fields_inside::are_fields_inside;
 pub use frame_tables::has_no_frame_table;
 pub use joined::are_notes_joined;
 pub use unique::are_unique;
+pub use whole_code::are_instructions_whole;

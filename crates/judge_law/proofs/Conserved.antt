@@ -1,6 +1,6 @@
 -- A link that the profile's check accepts has all its sections, and their bytes.
-use Rattle.std.proofs.Common.{◌∙◌, ap, refl, subst, sym}
-use Rattle.std.specs.Prelude.{◌≡◌, ◌+◌, ◌<◌, ◌==◌, ◌||◌, ℕ, Bool, true, false, List, Option, Some, IsSome, All, Contains, bit_and, option_map, unwrap_or}
+use Rattle.std.proofs.Common.{◌∙◌, ap, arith, refl, subst, sym}
+use Rattle.std.specs.Prelude.{◌≡◌, ◌+◌, ◌-◌, ◌<◌, ◌≤◌, ◌==◌, ◌||◌, ℕ, Bool, true, false, List, Option, Some, IsSome, All, Contains, bit_and, option_map, unwrap_or}
 use Rattle.std.proofs.lemmas.Bool.{eqb-true, false≢true}
 use Rattle.std.proofs.lemmas.List.Elements.{All-contains}
 use Rattle.std.proofs.lemmas.Nat.{and_assoc}
@@ -21,7 +21,8 @@ use Rattle.elf_model.specs.declared.records.SectionHeader.{SectionHeader}
 use Rattle.elf_model.specs.declared.verdict.Clause.{Clause}
 use Rattle.elf_model.specs.declared.verdict.Clause.TheVariants.{C3, C9, C10}
 use Rattle.judge_model.specs.Fields as foreign
-use Rattle.judge_model.specs.Fields.{HoldsRest, IsInField}
+use Rattle.judge_model.specs.Fields.{HoldsRest, IsInPlace}
+use Rattle.judge_model.specs.Rewrites.{front_of}
 use Rattle.judge_model.specs.Kept.{is_excluded, shf_exclude}
 use Rattle.judge_model.specs.Links.{is_in_image, objects_of, placed_of, relocations_of}
 use Rattle.judge_model.specs.Plans.{is_discarded}
@@ -50,19 +51,23 @@ kind_same r known = by (31 == rela_type r.entry) refl
     by true e = absurd (not_known (rela_type r.entry) (eqb-true 31 (rela_type r.entry) e) known)
     by false e = rw e refl
 
+-- a field lies in its place
+in_place : (front width offset k : ℕ) → offset ≤ k → k < offset + width → ((offset - front) ≤ k) × (k < (offset - front) + (front + width))
+in_place front width offset k low high = (omega (arith, low), omega (arith, high))
+
 module _ (s : Subject) (order : AreInOrder s) (holds : (c : Clause) → right.Holds c s) where
   known : (r : Relocation) → Contains (relocations (right.objects_of s)) r → IsSome (relocation_kind r)
   known r c = (All-contains (IsLawfulRelocation (right.objects_of s)) (relocations (right.objects_of s)) r (holds C9).lawful.each c).known
 
   no_field :
       (q : Placed) (k : ℕ)
-      → All (λ r. r.object ≡ q.piece.object → r.section ≡ q.piece.section → ¬ IsInField r k) (relocations_of (foreign_of s))
+      → All (λ r. r.object ≡ q.piece.object → r.section ≡ q.piece.section → ¬ IsInPlace r k) (relocations_of (foreign_of s))
       → All (λ r. is_in_field q.piece.object q.piece.section k r ≡ false) (relocations (right.objects_of s))
   no_field q k outside = All-from_contains (λ r. is_in_field q.piece.object q.piece.section k r ≡ false) (relocations (right.objects_of s)) each
     where
-      here : All (λ (r : Relocation). r.object ≡ q.piece.object → r.section ≡ q.piece.section → ¬ IsInField r k) (relocations (right.objects_of s))
+      here : All (λ (r : Relocation). r.object ≡ q.piece.object → r.section ≡ q.piece.section → ¬ IsInPlace r k) (relocations (right.objects_of s))
       here =
-          subst (All (λ (r : Relocation). r.object ≡ q.piece.object → r.section ≡ q.piece.section → ¬ IsInField r k)) (relocations_same s order holds) outside
+          subst (All (λ (r : Relocation). r.object ≡ q.piece.object → r.section ≡ q.piece.section → ¬ IsInPlace r k)) (relocations_same s order holds) outside
 
       each : (r : Relocation) → Contains (relocations (right.objects_of s)) r → is_in_field q.piece.object q.piece.section k r ≡ false
       each r c = by (is_in_field q.piece.object q.piece.section k r) refl
@@ -73,8 +78,9 @@ module _ (s : Subject) (order : AreInOrder s) (holds : (c : Clause) → right.Ho
               let f = in_field q.piece.object q.piece.section k r e in
               let w : profile.width_of r ≡ foreign.width_of r = ap (λ (o : Option Kind). unwrap_or (option_map (λ k. k.width) o) 0) (sym (kind_same r (known r c))) in
               absurd
-              (All-contains (λ (r : Relocation). r.object ≡ q.piece.object → r.section ≡ q.piece.section → ¬ IsInField r k)
-              (relocations (right.objects_of s)) r here c f.0 f.1 (f.2, subst (λ n. k < r.entry.r_offset + n) w f.3))
+              (All-contains (λ (r : Relocation). r.object ≡ q.piece.object → r.section ≡ q.piece.section → ¬ IsInPlace r k)
+              (relocations (right.objects_of s)) r here c f.0 f.1
+              (in_place (front_of r.entry) (foreign.width_of r) r.entry.r_offset k f.2 (subst (λ n. k < r.entry.r_offset + n) w f.3)))
 
   rest : (q : Placed) → Contains (right.placed_of s) q → HoldsRest (foreign_of s) q
   rest q c = record {

@@ -1,4 +1,5 @@
--- The statement that a certificate leaves no byte of a section open, but those by which code finds slots.
+-- The statement that a certificate leaves no byte of a section open, but those by which code finds slots, and code that has what
+-- such slots hold.
 use Rattle.std.specs.Prelude.{◌≡◌, ℕ, ◌+◌, ◌<◌, List, All, None, IfSome}
 use Rattle.std.specs.List.{slice_get}
 use Rattle.elf_model.specs.Image.MemoryImage.{thread_blocks}
@@ -7,7 +8,7 @@ use Rattle.elf_model.specs.Link.Pieces.{load_size}
 use Rattle.elf_model.specs.Link.Placement.{Placed}
 use Rattle.elf_model.specs.Link.Relocation.{Relocation}
 use Rattle.elf_model.specs.Link.Slots.{slot_kind_of}
-use Rattle.judge_model.specs.Fields.{IsInField, field_address, kind_of, width_of}
+use Rattle.judge_model.specs.Fields.{IsInPlace, field_address, kind_of, width_of}
 use Rattle.judge_model.specs.Links.{ForeignLink, placed_of, relocations_of}
 use Rattle.judge_model.specs.RightForeign.{IsShown}
 use Rattle.judge_model.specs.ThreadBlocks.{thread_pointer}
@@ -20,15 +21,15 @@ with_image l image = record { plan = l.plan; files = l.files; image = image; cer
 abbrev pub pointer_of : List ℕ → ℕ
 pointer_of image = thread_pointer (slice_get (thread_blocks image) 0)
 
--- byte k of a section is in no field
+-- byte k of a section is in no place of a relocation
 abbrev pub IsOutside : ForeignLink → Placed → ℕ → Type 0
-IsOutside l q k = All (λ r. r.object ≡ q.piece.object → r.section ≡ q.piece.section → ¬ IsInField r k) (relocations_of l)
+IsOutside l q k = All (λ r. r.object ≡ q.piece.object → r.section ≡ q.piece.section → ¬ IsInPlace r k) (relocations_of l)
 
 -- the relocation asks for no slot
 abbrev pub HasNoSlot : Relocation → Type 0
 HasNoSlot r = IfSome (kind_of r) (λ k. slot_kind_of k.formula ≡ None)
 
--- two images hold the same bytes of each section outside of fields, and in each field by which no slot is found
+-- two images hold the same bytes of each section outside of places, and in each field by which no slot is found
 abbrev pub AreSameOutside : ForeignLink → List ℕ → Placed → Type 0
 AreSameOutside l image q =
     (k : ℕ) → k < load_size q.piece → IsOutside l q k → byte_at l.image (q.at + k) ≡ byte_at image (q.at + k)

@@ -1,24 +1,32 @@
 -- F5 and F7. The fields of relocations, and all other bytes of sections (AMD64 psABI 4.4, "Relocation Types"; ELF Handling
--- For Thread-Local Storage). Slots of the GOT may be anywhere: a field tells where its own is.
-use Rattle.std.specs.Prelude.{◌≡◌, ℕ, ℤ, pos, ◌+ℤ◌, ◌-ℤ◌, ◌+◌, ◌*◌, ◌%◌, ◌^◌, ◌<◌, ◌≤◌, ◌==◌, Bool, true, false, List, ◌∷◌, Option, None, Some, IsSomeAnd, All, Any, find, is_some, option_map, slice_index, unwrap_or}
-use Rattle.std.specs.Option.{option_map_or}
+-- For Thread-Local Storage). Slots of the GOT may be anywhere: a field tells where its own is. Code that takes an address from a
+-- slot may be rewritten so that it has the address itself: the place of such a relocation is its field with what the instruction
+-- has in front of it.
+use Rattle.std.specs.Prelude.{◌≡◌, ◌⊎◌, ℕ, ℤ, pos, ◌+ℤ◌, ◌-ℤ◌, ◌+◌, ◌-◌, ◌*◌, ◌%◌, ◌^◌, ◌<◌, ◌≤◌, ◌==◌, Bool, true, false, List, [], ◌∷◌, Option, None, Some, IsSomeAnd, All, Any, Contains, find, is_some, length, option_map, slice_index, unwrap_or}
+use Rattle.std.specs.List.{slice_get}
+use Rattle.std.specs.Option.{option_and_then, option_map_or}
 use Rattle.byteview.specs.Numbers.{le_bytes}
 use Rattle.elf_model.specs.Image.MemoryImage.{loads}
 use Rattle.elf_model.specs.Image.RightLink.{byte_at}
-use Rattle.elf_model.specs.Inputs.ObjectFile.{rela_type}
+use Rattle.elf_model.specs.Inputs.ObjectFile.{rela_type, section, section_bytes, sections, symbols}
+use Rattle.elf_model.specs.Link.Loading.{LoadedObject}
 use Rattle.elf_model.specs.Link.Meaning.{is_in_thread_storage, meaning_size}
-use Rattle.elf_model.specs.Link.Pieces.{load_size}
+use Rattle.elf_model.specs.Link.Pieces.{is_executable, load_size}
 use Rattle.elf_model.specs.Link.Placement.{AreApart, Covers, Placed}
 use Rattle.elf_model.specs.Link.Relocation.{Always, Formula, G+A, G+GOT+A-P, GOT+A-P, GT+GOT+A-P, IsInRange, IsMismatch, Kind, Relocation, S+A, S+A-GOT, S+A-P, T+A, Z+A, kind, kinds, modulo_64}
 use Rattle.elf_model.specs.Link.Slots.{slot_kind_of}
 use Rattle.elf_model.specs.declared.link_map.SlotKind.{SlotKind}
 use Rattle.elf_model.specs.declared.link_map.SlotKind.TheVariants as slot
 use Rattle.elf_model.specs.declared.records.ProgramHeader.{ProgramHeader}
+use Rattle.elf_model.specs.declared.records.Rela.{Rela}
+use Rattle.elf_model.specs.declared.records.Symbol.{Symbol}
 use Rattle.elf_model.specs.declared.thing.Thing.{Thing}
 use Rattle.judge_model.specs.Links.{ForeignLink, objects_of, relocations_of, sections_of}
 use Rattle.judge_model.specs.Means.{address_of, definition_of, meant}
 use Rattle.judge_model.specs.Memory.{Holds}
 use Rattle.judge_model.specs.Placed.{things_of}
+use Rattle.judge_model.specs.Rewrites.{Instruction, front_bytes, front_of, instruction_in, rewrite_of, rewritings}
+use Rattle.judge_model.specs.declared.rewriting.Rewriting.{Rewriting}
 use Rattle.judge_model.specs.Runs.{IsBetween}
 use Rattle.judge_model.specs.ThreadBlocks.{thread_offset}
 
@@ -35,15 +43,22 @@ kind_of r = find (λ k. k.number == rela_type r.entry) foreign_kinds
 abbrev pub width_of : Relocation → ℕ
 width_of r = unwrap_or (option_map (λ k. k.width) (kind_of r)) 0
 
--- byte k of a section of an object lies in the field; a field lies inside its section; no byte lies in two
-abbrev pub IsInField : Relocation → ℕ → Type 0
-IsInField r k = (r.entry.r_offset ≤ k) × (k < r.entry.r_offset + width_of r)
+-- where the place of a relocation begins in its section, and how many bytes it has
+abbrev pub place_start : Relocation → ℕ
+place_start r = r.entry.r_offset - front_of r.entry
+
+abbrev pub place_width : Relocation → ℕ
+place_width r = front_of r.entry + width_of r
+
+-- byte k of a section of an object lies in the place; a field lies inside its section; no byte lies in two places
+abbrev pub IsInPlace : Relocation → ℕ → Type 0
+IsInPlace r k = (place_start r ≤ k) × (k < place_start r + place_width r)
 
 abbrev pub IsInside : Relocation → Type 0
 IsInside r = r.entry.r_offset + width_of r ≤ r.size
 
 abbrev pub AreFieldsApart : Relocation → Relocation → Type 0
-AreFieldsApart r t = r.object ≡ t.object → r.section ≡ t.section → (k : ℕ) → IsInField r k → IsInField t k → ⊥
+AreFieldsApart r t = r.object ≡ t.object → r.section ≡ t.section → (k : ℕ) → IsInPlace r k → IsInPlace t k → ⊥
 
 -- what the letters of the formulas stand for: S, A, P, the address of the slot, GOT, Z and T
 pub record Letters : Type 0 where
@@ -141,7 +156,7 @@ needs_got G+A = true
 needs_got GOT+A-P = true
 needs_got _ = false
 
--- F5. The field of a relocation is right.
+-- The field of a relocation holds what its kind asks for.
 abbrev pub HoldsPlain : ForeignLink → Relocation → Kind → Option SlotKind → Type 0
 HoldsPlain l r k None = IsSomeAnd (meant l r) (λ v. HoldsValue l r k v 0)
 HoldsPlain l r k (Some asked) = (at : ℕ) × HasSlotAt l r at
@@ -152,12 +167,70 @@ HoldsField l r k =
     × (needs_got k.formula ≡ true → is_some l.certificate.got ≡ true)
     × HoldsPlain l r k (slot_kind_of k.formula)
 
-abbrev pub IsFieldRight : ForeignLink → Relocation → Type 0
-IsFieldRight l r = IsSomeAnd (kind_of r) (HoldsField l r)
+-- Rewritten code.
 
--- F7. All other bytes of a section are the input's, and 0 where the input has none.
+-- the section that a relocation relocates, as the input has it: its bytes, and whether they are executed; and the instruction
+abbrev pub bytes_in : List LoadedObject → Relocation → List ℕ
+bytes_in objects r = unwrap_or (option_and_then (λ o. section_bytes o.bytes r.section) (slice_get objects r.object)) []
+
+abbrev pub is_code_in : List LoadedObject → Relocation → Bool
+is_code_in objects r = option_map_or (λ o. is_executable (section (sections o.bytes) r.section)) (slice_get objects r.object) false
+
+abbrev pub instruction_of : List LoadedObject → Relocation → Instruction
+instruction_of objects r = instruction_in (bytes_in objects r) r.entry
+
+-- the address of a place; and a relocation whose field begins some bytes earlier, with an addend
+abbrev pub place_address : ForeignLink → Relocation → ℕ
+place_address l r = unwrap_or (address_of l r.object r.section) 0 + place_start r
+
+abbrev pub rewritten_entry : Rela → ℕ → ℤ → Rela
+rewritten_entry e earlier addend = record { r_offset = e.r_offset - earlier; r_info = e.r_info; r_addend = addend }
+
+abbrev pub rewritten : Relocation → ℕ → ℤ → Relocation
+rewritten r earlier addend = record {
+  object = r.object;
+  section = r.section;
+  name = r.name;
+  size = r.size;
+  entry = rewritten_entry r.entry earlier addend;
+  symbol = r.symbol;
+}
+
+-- an instruction is whole: no symbol of its object is defined inside its place, but at the first byte
+abbrev pub IsDefinedInside : Relocation → Symbol → Type 0
+IsDefinedInside r s = (s.st_shndx ≡ r.section) × (place_start r < s.st_value) × (s.st_value < place_start r + place_width r)
+
+abbrev pub symbols_in : List LoadedObject → ℕ → List Symbol
+symbols_in objects n = option_map_or (λ o. symbols o.bytes) (slice_get objects n) []
+
+pub record IsWholeInstruction (objects : List LoadedObject) (r : Relocation) : Type 0 where
+  pub none : 0 < front_of r.entry → All (λ s. ¬ IsDefinedInside r s) (symbols_in objects r.object)
+
+-- the bytes of a place are a row's: of a relocation of one of its types, which tells an instruction of code, one of the row's
+pub record IsRewritten (l : ForeignLink) (r : Relocation) (w : Rewriting) : Type 0 where
+  pub told : 0 < front_of r.entry
+  pub type_ : Contains (rewrite_of w).types (rela_type r.entry)
+  pub code : is_code_in (objects_of l) r ≡ true
+  pub instruction : (rewrite_of w).is_of (instruction_of (objects_of l) r) ≡ true
+  pub front : Holds l.image (place_address l r) ((rewrite_of w).front (instruction_of (objects_of l) r))
+  pub field :
+      let put = (rewrite_of w).put (instruction_of (objects_of l) r) in
+      HoldsField l (rewritten r (length (rewrite_of w).behind) put.addend) put.kind
+  pub behind :
+      Holds l.image (unwrap_or (address_of l r.object r.section) 0 + (r.entry.r_offset - length (rewrite_of w).behind) + 4) (rewrite_of w).behind
+
+-- the bytes of a place are the input's, and its field the one of the kind
+pub record IsUnchanged (l : ForeignLink) (r : Relocation) : Type 0 where
+  pub front : 0 < front_of r.entry → Holds l.image (place_address l r) (front_bytes (instruction_of (objects_of l) r))
+  pub field : IsSomeAnd (kind_of r) (HoldsField l r)
+
+-- F5. The place of a relocation is right.
+abbrev pub IsFieldRight : ForeignLink → Relocation → Type 0
+IsFieldRight l r = IsUnchanged l r ⊎ Any (IsRewritten l r) rewritings
+
+-- F7. All bytes of a section outside of places are the input's, and 0 where the input has none.
 pub record HoldsRest (l : ForeignLink) (q : Placed) : Type 0 where
   pub bytes :
       (k : ℕ) → k < load_size q.piece
-      → All (λ r. r.object ≡ q.piece.object → r.section ≡ q.piece.section → ¬ IsInField r k) (relocations_of l)
+      → All (λ r. r.object ≡ q.piece.object → r.section ≡ q.piece.section → ¬ IsInPlace r k) (relocations_of l)
       → byte_at l.image (q.at + k) ≡ Some (slice_index q.piece.bytes k)

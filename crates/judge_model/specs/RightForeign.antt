@@ -8,7 +8,7 @@ use Rattle.elf_model.specs.Link.Pieces.{Piece}
 use Rattle.elf_model.specs.Link.Resolution.{AreUnique, AreSoundCommons, is_in_thread_section, chosen}
 use Rattle.elf_model.specs.Link.Meaning.{object_meaning}
 use Rattle.elf_model.specs.declared.records.ProgramHeader.{ProgramHeader}
-use Rattle.judge_model.specs.Fields.{AreFieldsApart, HoldsRest, IsFieldRight, IsInside}
+use Rattle.judge_model.specs.Fields.{AreFieldsApart, HoldsRest, IsFieldRight, IsInside, IsWholeInstruction}
 use Rattle.judge_model.specs.Fill.{IsFilled}
 use Rattle.judge_model.specs.Headers.{AreHeadersRight, pt_gnu_eh_frame}
 use Rattle.judge_model.specs.Kept.{IsKept}
@@ -38,8 +38,7 @@ EntersRight l =
     IsSomeAnd (chosen (objects_of l) l.plan.plan.entry) (λ s. is_in_thread_section (objects_of l) s ≡ false)
     × IsSomeAnd (object_meaning (objects_of l) l.plan.plan.entry) (λ m. value_of l m ≡ Some (file_header l.image).e_entry)
 
--- The requirements by number. Those on what linkers edit ask that nothing is edited: code that is rewritten (F6), and call
--- frames (F8).
+-- The requirements by number. Code that linkers rewrite (F6) is part of F5; that on call frames (F8) asks that nothing is edited.
 abbrev pub Holds : Requirement → ForeignLink → Type 0
 Holds F1 l = loaded.IsLoaded l.files l.plan.plan l.certificate.objects
 Holds F2 l = IsKept l
@@ -56,11 +55,11 @@ Holds F12 l = AreHeadersRight l
 Holds F13 l = HasTables l.image → AreTablesRight l
 
 -- What isn't judged: links whose inputs leave open what is right. Files, archives and objects that can't be read, as those of
--- other machines or with IFUNC symbols; objects for link-time optimization; two strong definitions of a name, unless the words ask for the first; a common symbol
--- that isn't sound; fields that leave their section or overlap; arrays of functions that gaps would break; names for where an
--- output name begins and ends whose sections are not of one run; a line for a property note, which linkers join; and, until they
--- are judged too, strings and constants that may be merged, and call frames, without a line that says where they are
--- unedited, and a table of frames.
+-- other machines or with IFUNC symbols; objects for link-time optimization; two strong definitions of a name, unless the words ask
+-- for the first; a common symbol that isn't sound; fields that leave their section, and places that overlap; instructions that
+-- linkers may rewrite with a symbol inside; arrays of functions that gaps would break; names for where an output name begins and
+-- ends whose sections are not of one run; a line for a property note, which linkers join; and, until they are judged too, strings
+-- and constants that may be merged, and call frames, without a line that says where they are unedited, and a table of frames.
 abbrev pub is_edited : ForeignLink → Piece → Bool
 is_edited l p = not (is_placed l p) && (is_mergeable l p || is_frames p)
 
@@ -88,6 +87,7 @@ pub record IsJudged (l : ForeignLink) : Type 0 where
   pub commons : AreSoundCommons (objects_of l)
   pub inside : All IsInside (relocations_of l)
   pub apart : AllPairs AreFieldsApart (relocations_of l)
+  pub whole : All (IsWholeInstruction (objects_of l)) (relocations_of l)
   pub unedited : All (λ p. is_edited l p ≡ false) (pieces_of l)
   pub joined : All (IsJoined l) (pieces_of l)
   pub unmixed : All (IsUnmixed l) l.certificate.names

@@ -5,6 +5,8 @@
 
 mod certificate;
 mod judgement;
+mod rewriting;
 
 pub use certificate::{Certificate, NameLine, NoteLine};
 pub use judgement::{Judgement, Requirement};
+pub use rewriting::Rewriting;

@@ -1,8 +1,9 @@
 -- The field of a relocation is right by a link's parts exactly where it is right.
-use Rattle.std.proofs.Common.{◌≡◌, ℕ, ◌⊎◌, inl, inr, true, List, Option, None, Some, refl, sym, subst, ◌∙◌}
+use Rattle.std.proofs.Common.{◌≡◌, ℕ, ◌<◌, ◌⊎◌, inl, inr, true, List, length, Option, None, Some, refl, sym, subst, ◌∙◌}
 use Rattle.std.specs.Prelude.{◌↔◌, All, Any, IsSomeAnd, not}
 use Rattle.std.proofs.lemmas.List.Elements.{All-weaker}
 use Rattle.std.proofs.lemmas.Option.{same_Some}
+use Rattle.elf_model.specs.Inputs.ObjectFile.{rela_type}
 use Rattle.elf_model.specs.Link.Placement as placement
 use Rattle.elf_model.specs.Link.Placement.{AreApart, Covers}
 use Rattle.elf_model.specs.Link.Relocation.{Kind, Relocation, relocations}
@@ -13,12 +14,16 @@ use Rattle.elf_model.specs.declared.link_map.DropLine.{DropLine}
 use Rattle.elf_model.specs.declared.thing.Thing.{Thing}
 use Rattle.judge_model.specs.Certificates.{is_left_out}
 use Rattle.judge_model.specs.Fields as fields
-use Rattle.judge_model.specs.Fields.{HasSlotAt, HoldsField, HoldsPlain, HoldsValue, IsFieldRight, IsSlot, kind_of, slot_thing}
+use Rattle.judge_model.specs.Fields.{HasSlotAt, HoldsField, HoldsPlain, HoldsValue, IsFieldRight, IsRewritten, IsSlot, instruction_of, is_code_in, kind_of, rewritten, slot_thing}
 use Rattle.judge_model.specs.Links.{ForeignLink, is_in_image_too, objects_of, relocations_of, sections_of}
 use Rattle.judge_model.specs.Means as means
 use Rattle.judge_model.specs.Placed.{things_of}
+use Rattle.judge_model.specs.Rewrites.{Instruction, front_of, rewrite_of, rewritings}
+use Rattle.judge_model.specs.declared.rewriting.Rewriting.{Rewriting}
 use Rattle.judge_model.specs.Runs.{IsBetween}
 use Rattle.field_judge.specs.Given.{HasSlotIn, HoldsPlainIn, HoldsValueIn, IsRightIn, slot_value}
+use Rattle.field_judge.proofs.RowLaws.{no_slot}
+use Rattle.field_judge.specs.Rewritten.{IsOfKind, IsRewrittenIn}
 use Rattle.memory_judge.specs.Slots.{IsClear, IsSlotAmong}
 use Rattle.link_fields.proofs.Lists.{apart_from, never_in, passing}
 use Rattle.link_fields.specs.Slots.{AsksSlotIn, AsksSlotUnlessOut}
@@ -138,19 +143,92 @@ module _ (l : ForeignLink) (taken : List Thing) (are : AreTaken l taken) where
         held (Some v) told = value_in k v 0 told
     plain_in k (Some asked) kind_is asks (at, h) = (at, has_in k asked at kind_is asks h)
 
-    pub right_of : IsFieldRightIn (parts_of l) taken r → IsFieldRight l r
-    right_of h = by (kind_of r) refl h
+    kind_of_right : IsOfKind l.image taken (given (parts_of l) r) (rela_type r.entry) → IsSomeAnd (kind_of r) (HoldsField l r)
+    kind_of_right h = by (kind_of r) refl h
       where
         by : (o : Option Kind) → kind_of r ≡ o → IsSomeAnd o (IsRightIn l.image taken (given (parts_of l) r)) → IsSomeAnd o (HoldsField l r)
         by None is never = never
         by (Some k) is told = (told.0, told.1, plain_of k (slot_kind_of k.formula) is refl told.2)
 
-    pub right_in : IsFieldRight l r → IsFieldRightIn (parts_of l) taken r
-    right_in h = by (kind_of r) refl h
+    kind_in : IsSomeAnd (kind_of r) (HoldsField l r) → IsOfKind l.image taken (given (parts_of l) r) (rela_type r.entry)
+    kind_in h = by (kind_of r) refl h
       where
         by : (o : Option Kind) → kind_of r ≡ o → IsSomeAnd o (HoldsField l r) → IsSomeAnd o (IsRightIn l.image taken (given (parts_of l) r))
         by None is never = never
         by (Some k) is told = (told.0, told.1, plain_in k (slot_kind_of k.formula) is refl told.2)
+
+    -- a field of a kind without a slot
+    free_of :
+        (k : Kind) → slot_kind_of k.formula ≡ None → IsRightIn l.image taken (given (parts_of l) r) k → HoldsField l r k
+    free_of k free told = (
+      told.0,
+      told.1,
+      subst (HoldsPlain l r k) (sym free)
+          (held (meant (parts_of l) (has_frames r.name) r.symbol) meant_is (subst (HoldsPlainIn l.image taken (given (parts_of l) r) k) free told.2)),
+    )
+      where
+        held :
+            (m : Option ℕ) → means.meant l r ≡ m → IsSomeAnd m (λ v. HoldsValueIn l.image (given (parts_of l) r) k v 0) →
+            IsSomeAnd (means.meant l r) (λ v. HoldsValue l r k v 0)
+        held None is never = absurd never
+        held (Some v) is here = subst (λ (m : Option ℕ). IsSomeAnd m (λ v. HoldsValue l r k v 0)) (sym is) (value_of k v 0 here)
+
+    free_in :
+        (k : Kind) → slot_kind_of k.formula ≡ None → HoldsField l r k → IsRightIn l.image taken (given (parts_of l) r) k
+    free_in k free told = (
+      told.0,
+      told.1,
+      subst (HoldsPlainIn l.image taken (given (parts_of l) r) k) (sym free)
+          (held (meant (parts_of l) (has_frames r.name) r.symbol)
+          (subst (λ (m : Option ℕ). IsSomeAnd m (λ v. HoldsValue l r k v 0)) meant_is (subst (HoldsPlain l r k) free told.2))),
+    )
+      where
+        held :
+            (m : Option ℕ) → IsSomeAnd m (λ v. HoldsValue l r k v 0) → IsSomeAnd m (λ v. HoldsValueIn l.image (given (parts_of l) r) k v 0)
+        held None never = absurd never
+        held (Some v) here = value_in k v 0 here
+
+  module _ (r : Relocation) where
+    abbrev own : Instruction
+    own = instruction_of (objects_of l) r
+
+    -- a row's
+    row_of :
+        (w : Rewriting) → 0 < front_of r.entry → is_code_in (objects_of l) r ≡ true →
+        IsRewrittenIn l.image taken (given (parts_of l) r) (rela_type r.entry) (front_of r.entry) own w → IsRewritten l r w
+    row_of w told code h = record {
+      told = told;
+      type_ = h.type_;
+      code = code;
+      instruction = h.instruction;
+      front = h.front_is;
+      field =
+          free_of (rewritten r (length (rewrite_of w).behind) ((rewrite_of w).put own).addend) ((rewrite_of w).put own).kind (no_slot w own) h.field;
+      behind = h.behind;
+    }
+
+    row_in : (w : Rewriting) → IsRewritten l r w → IsRewrittenIn l.image taken (given (parts_of l) r) (rela_type r.entry) (front_of r.entry) own w
+    row_in w h = record {
+      type_ = h.type_;
+      instruction = h.instruction;
+      front_is = h.front;
+      field =
+          free_in (rewritten r (length (rewrite_of w).behind) ((rewrite_of w).put own).addend) ((rewrite_of w).put own).kind (no_slot w own) h.field;
+      behind = h.behind;
+    }
+
+    pub right_of : IsFieldRightIn (parts_of l) taken r → IsFieldRight l r
+    right_of (inl same) = inl (record { front = same.front_is; field = kind_of_right r same.field })
+    right_of (inr rewritten) = inr (by rewritten.some)
+      where
+        by :
+            Any (IsRewrittenIn l.image taken (given (parts_of l) r) (rela_type r.entry) (front_of r.entry) own) rewritings →
+            Any (IsRewritten l r) rewritings
+        by (i, w, low, is, h) = (i, w, low, is, row_of w rewritten.told rewritten.code_is h)
+
+    pub right_in : IsFieldRight l r → IsFieldRightIn (parts_of l) taken r
+    right_in (inl same) = inl (record { front_is = same.front; field = kind_in r same.field })
+    right_in (inr (i, w, low, is, h)) = inr (record { told = h.told; code_is = h.code; some = (i, w, low, is, row_in w h) })
 
   -- the slots of all, but for those of sections that are left out
   pub some_slot :

@@ -3,6 +3,7 @@ pub mod DropLaws
 pub mod FieldParts
 pub mod ForeignFields
 pub mod Lists
+pub mod OwnPlaces
 pub mod OwnRelocations
 pub mod PartitionPoints
 pub mod Rows

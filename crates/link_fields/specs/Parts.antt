@@ -1,8 +1,9 @@
 -- The parts of a link by which fields are judged, and what symbols mean by these alone.
-use Rattle.std.specs.Prelude.{◌≡◌, ◌⊎◌, ◌↔◌, ℕ, ◌+◌, ◌%◌, ◌^◌, ◌==◌, ◌&&◌, ◌||◌, Bool, true, false, not, cond, List, Option, None, Some, Any, IsSomeAnd, codes, find, is_some, option_map, unwrap_or}
+use Rattle.std.specs.Prelude.{◌≡◌, ◌⊎◌, ◌↔◌, ℕ, ◌+◌, ◌%◌, ◌^◌, ◌==◌, ◌&&◌, ◌||◌, Bool, true, false, not, cond, List, Option, None, Some, Any, codes, find, is_some, option_map, unwrap_or}
 use Rattle.std.specs.List.{list_any}
 use Rattle.std.specs.Option.{option_map_or, option_or}
 use Rattle.std.specs.Str.{bytes_eq}
+use Rattle.elf_model.specs.Inputs.ObjectFile.{rela_type}
 use Rattle.elf_model.specs.Link.LinkerNames.{fixed_bound, named_output, output_bound}
 use Rattle.elf_model.specs.Link.Loading.{LoadedObject}
 use Rattle.elf_model.specs.Link.Meaning.{Common, Linker, Meaning, Symbol, is_in_thread_storage, meaning_size, object_meaning}
@@ -14,13 +15,15 @@ use Rattle.elf_model.specs.declared.bound.Bound.{Bound}
 use Rattle.elf_model.specs.declared.link_map.DropLine.{DropLine}
 use Rattle.elf_model.specs.declared.thing.Thing.{Thing}
 use Rattle.judge_model.specs.Certificates.{NameRow, is_left_out, value_of_name}
-use Rattle.judge_model.specs.Fields.{kind_of}
+use Rattle.judge_model.specs.Fields.{instruction_of, is_code_in}
 use Rattle.judge_model.specs.Links.{ForeignLink, objects_of, pieces_of, placed_of, sections_of}
 use Rattle.judge_model.specs.Means.{undefined_value}
 use Rattle.judge_model.specs.Placed.{things_of}
 use Rattle.judge_model.specs.Plans.{Script, is_match}
+use Rattle.judge_model.specs.Rewrites.{front_of}
 use Rattle.judge_model.specs.Runs.{IsBetween}
-use Rattle.field_judge.specs.Given.{Given, IsRightIn}
+use Rattle.field_judge.specs.Given.{Given}
+use Rattle.field_judge.specs.Rewritten.{IsPlaceRight}
 use Rattle.link_fields.specs.declared.meanings.Meant.{Meant}
 
 -- the image, the objects, the sections of the image, these and common blocks at their addresses, the certificate's values of names and
@@ -137,7 +140,8 @@ given p r = record {
 }
 
 abbrev pub IsFieldRightIn : Parts → List Thing → Relocation → Type 0
-IsFieldRightIn p taken r = IsSomeAnd (kind_of r) (IsRightIn p.image taken (given p r))
+IsFieldRightIn p taken r =
+    IsPlaceRight p.image taken (given p r) (rela_type r.entry) (front_of r.entry) (is_code_in p.objects r) (instruction_of p.objects r)
 
 -- Where no slot may be: what takes up memory, and the gaps of runs.
 abbrev pub IsTaken : ForeignLink → ℕ → Type 0

@@ -3,8 +3,8 @@
 //!
 //! Begin with `LinkParts`, the parts of a link without a script. `are_fields_right` decides F5, given where memory is taken, and
 //! `are_rests_right` F7, where each section lies whole in a segment as F3 asks. A field's own bytes tell where its slot is;
-//! `slots_of` lists these.
-//! Code that linkers rewrite, merged strings and edited frames have no fields here, as the definitions ask that nothing is edited.
+//! `slots_of` lists these. Code that linkers rewrite may stand in place of what takes an address from a slot.
+//! Merged strings and edited frames have no fields here, as the definitions ask that they aren't edited.
 #![tactic(auto)]
 
 mod addresses;
@@ -20,6 +20,7 @@ mod slots;
 pub use addresses::Addresses;
 pub use drops::Drops;
 pub use meanings::{Meant, definition_of, symbol_meant};
+pub use object_fields::place_of;
 pub use own_rests::are_rests_right;
 pub use parts::LinkParts;
 pub use relocations::are_fields_right;

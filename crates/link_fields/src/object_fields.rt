@@ -1,16 +1,18 @@
-//! The fields of one object's sections, found by section.
+//! The fields of one object's sections, found by section; each with what its instruction has in front of it.
 ghost use Rattle.std.specs.Prelude.{◌≡◌, ◌==◌, ◌≤◌, ◌<◌, ◌↔◌, ℕ, All, IfOk, IsPermutation, find, length, map, option_map, slice_index_or, unwrap_or};
 ghost use Rattle.std.specs.List.{slice_get};
 ghost use Rattle.std.specs.List.Sorted.{IsNonDecreasingBy};
 ghost use Rattle.check_load.specs.KeptRelocations.{relocation_at};
 ghost use Rattle.check_load.specs.Views.{loaded_view, loaded_views};
-ghost use Rattle.elf_model.specs.Link.Relocation.{relocations_from};
+ghost use Rattle.elf_model.specs.Link.Relocation.{Relocation, relocations_from};
 ghost use Rattle.judge_model.specs.Fields.{foreign_kinds};
 ghost use Rattle.memory_judge.specs.Rests.{IsBeside};
 ghost use Rattle.link_fields.specs.Fields.{HasFields, IsFieldOutside, field_of};
+ghost use Rattle.link_fields.specs.Rests.{span_of};
 
 use check_load::{KeptRelocation, Loaded};
-use field_judge::foreign_kind;
+use elf_model::Rela;
+use field_judge::{foreign_kind, front_of};
 use memory_judge::FieldSpan;
 use std::alloc::{AllocError, Global};
 
@@ -30,8 +32,9 @@ pub struct ObjectFields {
 
 /// The width of the field of a type in bytes; 0 of one that isn't judged.
 fn width_of(number: u32) -> u8
-    ensures { result ≡ unwrap_or (option_map (λ k. k.width)
+    ensures exact { result ≡ unwrap_or (option_map (λ k. k.width)
         (find (λ k. k.number == number) foreign_kinds)) 0 }
+    ensures few { result ≤ 8 }
 {
     match foreign_kind(number) {
         Some(kind) => kind.width,
@@ -39,7 +42,18 @@ fn width_of(number: u32) -> u8
     }
 }
 
-/// The field of a relocation of an object.
+/// The place of a relocation: its field, with what its instruction has in front of it where it tells one.
+pub fn place_of(entry: &Rela) -> FieldSpan
+    ensures { (r : Relocation) → r.entry ≡ entry.now → result ≡ span_of r }
+{
+    let front = front_of(entry);
+    FieldSpan {
+        at: entry.r_offset - front as u64,
+        width: front + width_of(entry.kind()),
+    }
+}
+
+/// The place of a relocation of an object.
 fn field_of(relocation: &KeptRelocation, loaded: &Loaded<'_>) -> SectionField
     ensures { (number : ℕ) → result
         ≡ field_of (relocation_at number (loaded_view loaded.now) relocation.now) }
@@ -47,10 +61,7 @@ fn field_of(relocation: &KeptRelocation, loaded: &Loaded<'_>) -> SectionField
     let _object = &loaded.object;
     SectionField {
         section: relocation.section,
-        span: FieldSpan {
-            at: relocation.entry.r_offset,
-            width: width_of(relocation.entry.kind()),
-        },
+        span: place_of(&relocation.entry),
     }
 }
 

@@ -1,13 +1,17 @@
 //! Whether the fields of relocations are right, object by object.
-ghost use Rattle.std.specs.Prelude.{◌≡◌, ◌↔◌, ◌%◌, ◌^◌, [], All, IsTrue, unwrap_or};
+ghost use Rattle.std.specs.Prelude.{◌≡◌, ◌↔◌, ◌%◌, ◌^◌, [], All, IsTrue, Some, unwrap_or};
+ghost use Rattle.std.specs.List.{slice_get};
 ghost use Rattle.elf_model.specs.Inputs.ObjectFile as object_file;
+ghost use Rattle.elf_model.specs.Link.Pieces.{is_executable};
 ghost use Rattle.elf_model.specs.Link.Relocation.{relocations, relocations_from, symbol_at};
 ghost use Rattle.check_link.specs.Views.{symbol_view};
 ghost use Rattle.check_load.specs.KeptRelocations.{relocation_at};
 ghost use Rattle.check_load.specs.Views.{loaded_view};
 ghost use Rattle.field_judge.specs.Given.{IsGiven, pointer_of};
+ghost use Rattle.field_judge.specs.Rewritten.{instruction_view};
 ghost use Rattle.link_fields.specs.Parts as words;
 ghost use Rattle.judge_model.specs.Links.{ForeignLink};
+ghost use Rattle.judge_model.specs.Rewrites.{instruction_in};
 ghost use Rattle.judge_model.specs.RightForeign.{Holds};
 ghost use Rattle.judge_model.specs.declared.judgement.Requirement.TheVariants as requirement;
 ghost use Rattle.link_fields.specs.Parts.{AreTaken, IsFieldRightIn, IsFieldRightUnlessOut, IsMeant, given, parts_of};
@@ -17,8 +21,11 @@ use crate::meanings::{Meant, symbol_meant};
 use crate::parts::LinkParts;
 use check_link::SymbolOf;
 use check_load::{KeptRelocation, Loaded};
+use elf_model::SHF_EXECINSTR;
 use elf_read::ObjectFile;
-use field_judge::{Asked, foreign_kind, is_right, thread_pointer};
+use field_judge::{
+    Asked, Instruction, front_of, instruction_in, is_of_kind, is_place_right, thread_pointer,
+};
 use memory_judge::Taken;
 
 /// Symbol `j` of object `number`; the null symbol where there is no such symbol.
@@ -98,7 +105,35 @@ fn address_or_zero(parts: &LinkParts<'_, '_, '_>, object: u64, section: u64) -> 
     }
 }
 
-/// Whether the field of a relocation of object `number` is right, among things that take up memory.
+/// The bytes of a section; none where it has none in the file.
+fn section_bytes<'a>(loaded: &Loaded<'a>, section: u32) -> &'a [u8]
+    ensures { result.now ≡ unwrap_or (object_file.section_bytes loaded.now.object section) [] }
+{
+    match loaded.object.section_bytes(section as usize) {
+        Some(bytes) => bytes,
+        None => &[],
+    }
+}
+
+/// The instruction of a relocation of an object, as the input has it.
+fn instruction_of(loaded: &Loaded<'_>, relocation: &KeptRelocation) -> Instruction
+    ensures { instruction_view result ≡ instruction_in
+        (unwrap_or (object_file.section_bytes loaded.now.object relocation.now.section) [])
+        relocation.now.entry }
+{
+    instruction_in(section_bytes(loaded, relocation.section), &relocation.entry)
+}
+
+/// Whether a section of an object has code.
+fn is_code(loaded: &Loaded<'_>, section: u32) -> bool
+    ensures { result ≡ is_executable
+        (object_file.section (object_file.sections loaded.now.object) section) }
+{
+    let header = loaded.object.section(section as usize);
+    header.sh_flags & SHF_EXECINSTR != 0
+}
+
+/// Whether the place of a relocation of object `number` is right, among things that take up memory.
 fn is_field_right<'a>(
     parts: &LinkParts<'_, '_, 'a>,
     taken: &Taken<'_>,
@@ -107,17 +142,20 @@ fn is_field_right<'a>(
     relocation: &KeptRelocation,
     thread_pointer: u64,
 ) -> bool
-    requires { thread_pointer ≡ pointer_of parts.now.image % 2 ^ 64 }
+    requires pointer { thread_pointer ≡ pointer_of parts.now.image % 2 ^ 64 }
+    requires own { slice_get parts.now.objects number ≡ Some (loaded_view loaded.now) }
     ensures { IsTrue result ↔ IsFieldRightIn parts.now taken.now
         (relocation_at number (loaded_view loaded.now) relocation.now) }
 {
-    match foreign_kind(relocation.entry.kind()) {
-        Some(kind) => {
-            let asked = asked_of(parts, number, loaded, relocation, thread_pointer);
-            is_right(parts.image, taken, &asked, &kind)
-        }
-        None => false,
+    let asked = asked_of(parts, number, loaded, relocation, thread_pointer);
+    let kind = relocation.entry.kind();
+    let front = front_of(&relocation.entry);
+    if front == 0 {
+        return is_of_kind(parts.image, taken, &asked, kind);
     }
+    let code = is_code(loaded, relocation.section);
+    let i = instruction_of(loaded, relocation);
+    is_place_right(parts.image, taken, &asked, kind, front, code, i)
 }
 
 /// Whether the field of a relocation is right, or its section is left out.
@@ -130,7 +168,8 @@ fn is_right_unless_out<'a>(
     relocation: &KeptRelocation,
     thread_pointer: u64,
 ) -> bool
-    requires { thread_pointer ≡ pointer_of parts.now.image % 2 ^ 64 }
+    requires pointer { thread_pointer ≡ pointer_of parts.now.image % 2 ^ 64 }
+    requires own { slice_get parts.now.objects number ≡ Some (loaded_view loaded.now) }
     ensures { IsTrue result ↔ IsFieldRightUnlessOut parts.now taken.now drops.now
         (relocation_at number (loaded_view loaded.now) relocation.now) }
 {
@@ -149,7 +188,8 @@ fn are_own_right<'a>(
     loaded: &Loaded<'a>,
     thread_pointer: u64,
 ) -> bool
-    requires { thread_pointer ≡ pointer_of parts.now.image % 2 ^ 64 }
+    requires pointer { thread_pointer ≡ pointer_of parts.now.image % 2 ^ 64 }
+    requires own { slice_get parts.now.objects number ≡ Some (loaded_view loaded.now) }
     ensures { IsTrue result ↔ All (IsFieldRightUnlessOut parts.now taken.now drops.now)
         (relocations_from number (loaded_view loaded.now)) }
 {

@@ -62,13 +62,25 @@ pub fn number_at(image: &ForeignImage<'_>, at: u64, offset: u64, width: u8) -> O
 }
 
 /// Whether memory has a byte at an offset behind another one of an address.
-fn has_byte(image: &ForeignImage<'_>, at: u64, offset: u64, index: u64, byte: u8) -> bool
+pub fn has_byte(image: &ForeignImage<'_>, at: u64, offset: u64, index: u64, byte: u8) -> bool
     ensures { IsTrue result ↔ (byte_at image.now (at + offset + index) ≡ Some byte) }
 {
     match byte_behind(image, at, offset, index) {
         Some(held) => held == byte,
         None => false,
     }
+}
+
+/// Whether memory holds bytes at an offset behind an address.
+pub fn holds_bytes(image: &ForeignImage<'_>, at: u64, offset: u64, bytes: &[u8]) -> bool
+    ensures { IsTrue result ↔ Holds image.now (at + offset) bytes.now }
+{
+    for k in 0..bytes.len() {
+        if !has_byte(image, at, offset, k as u64, bytes[k]) {
+            return false;
+        }
+    }
+    true
 }
 
 /// Whether memory holds a number of a width in bytes at an offset behind an address.

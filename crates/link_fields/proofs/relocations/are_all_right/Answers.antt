@@ -1,11 +1,14 @@
-use Rattle.std.proofs.Common.{◌+◌, ◌%◌, ◌^◌, ◌∙◌, ap, refl, sym}
+use Rattle.std.proofs.Common.{◌≡◌, ◌+◌, ◌%◌, ◌^◌, ◌∙◌, List, Some, ap, refl, subst, sym}
 use Rattle.std.specs.Prelude.{All}
+use Rattle.std.specs.List.{slice_get}
 use Rattle.std.proofs.lemmas.Bool.{false≢true}
 use Rattle.check_load.specs.Views.{loaded_view}
 use Rattle.elf_model.proofs.FlatRelocations.{left_of_objects, object_end}
+use Rattle.elf_model.specs.Link.Loading.{LoadedObject}
 use Rattle.elf_model.specs.Link.Relocation.{relocations, relocations_from}
 use Rattle.field_judge.specs.Given.{pointer_of}
 use Rattle.link_fields.proofs.Lists.{left_all, left_end, object_read, part_more, part_stop}
+use Rattle.link_fields.proofs.OwnPlaces.{object_there}
 use Rattle.link_fields.specs.Parts.{IsFieldRightUnlessOut, Parts}
 use Rattle.link_fields.proofs.relocations.are_all_right.Goals as goal
 
@@ -17,7 +20,13 @@ loop-k-init c =
     (ap relocations (c.objects-objects.ensures ∙ ap (λ (q : Parts). q.objects) c.parts.view_is))
 
 pub are_own_right-requires : goal.are_own_right-requires
-are_own_right-requires c = c.thread_pointer-pointer.ensures ∙ ap (λ (q : Parts). pointer_of q.image % 2 ^ 64) c.parts.view_is
+are_own_right-requires c = record {
+  pointer = c.thread_pointer-pointer.ensures ∙ ap (λ (q : Parts). pointer_of q.image % 2 ^ 64) c.parts.view_is;
+  own =
+      subst (λ (os : List LoadedObject). slice_get os c.loop-k.k ≡ Some (loaded_view c.index-objects-k.result))
+      (c.objects-objects.ensures ∙ ap (λ (q : Parts). q.objects) c.parts.view_is)
+      (object_there c.objects-objects.result.now c.loop-k.k c.index-objects-k.result c.loop-k-test.true c.index-objects-k.is);
+}
 
 pub loop-k-preserved : goal.loop-k-preserved
 loop-k-preserved c =
