@@ -2,8 +2,10 @@
 //! whole (System V gABI 4, .init_array), what linkers edit (SHF_MERGE, .eh_frame), fields beyond their sections (AMD64 psABI 4.4).
 ghost use Rattle.check_load.specs.Numbered.{AreNumbered};
 
-use crate::tests::images::{CODE, HEADERS};
-use crate::tests::sample_objects::{Named, Part, file, loaded, object, words};
+use crate::tests::images::{BLOCK, HEADERS};
+use crate::tests::sample_objects::{
+    Named, Part, Place, file, loaded, object, put_relocation, words,
+};
 use check_link::{Names, Piece};
 use check_load::NamedObjects;
 use elf_model::{
@@ -224,11 +226,11 @@ fn property_notes_have_no_lines(rt: HostRuntime) -> Result<(), Fail> {
 fn tables_of_frames_are_told(rt: HostRuntime) -> Result<(), Fail> {
     let table = ProgramHeader {
         p_type: 0x6474_e550,
-        ..CODE
+        ..BLOCK
     };
-    assert!(rt; has_no_frame_table(&[HEADERS, CODE]));
-    assert!(rt; !has_no_frame_table(&[HEADERS, CODE, table]));
-    assert!(rt; !has_no_frame_table(&[table, HEADERS, CODE]));
+    assert!(rt; has_no_frame_table(&[HEADERS, BLOCK]));
+    assert!(rt; !has_no_frame_table(&[HEADERS, BLOCK, table]));
+    assert!(rt; !has_no_frame_table(&[table, HEADERS, BLOCK]));
     Ok(())
 }
 
@@ -253,26 +255,6 @@ static RELOCATED: [Part; 3] = [
 ];
 
 const ENTRY: usize = 72;
-
-fn put(bytes: &mut [u8], at: usize, number: u64, width: usize) {
-    let field = bytes.iter_mut().skip(at).take(width);
-    for (byte, new) in field.zip(number.to_le_bytes()) {
-        *byte = new;
-    }
-}
-
-/// A relocation: its offset and its type.
-type Place = (u64, u64);
-
-/// Makes the section whose header is at an offset one of relocations of section 1 with the symbols of section 4, and puts its entry
-/// at another offset.
-fn put_relocation(bytes: &mut [u8], header: usize, entry: usize, place: Place) {
-    put(bytes, header.saturating_add(40), 4, 4);
-    put(bytes, header.saturating_add(44), 1, 4);
-    put(bytes, header.saturating_add(56), 24, 8);
-    put(bytes, entry, place.0, 8);
-    put(bytes, entry.saturating_add(8), 0x1_0000_0000 | place.1, 8);
-}
 
 /// An object with two relocations in its eight bytes of code. Its section headers are its last bytes: those of no section, the
 /// three of `RELOCATED`, the symbol table, its names and the names of sections.

@@ -199,3 +199,24 @@ pub fn words(alloc: Global) -> Result<Vec<String>, AllocError> {
     words.push(String::from_str(alloc, "a.o")?)?;
     Ok(words)
 }
+
+/// Puts a number of a width into bytes, the least significant byte first.
+pub fn put(bytes: &mut [u8], at: usize, number: u64, width: usize) {
+    let field = bytes.iter_mut().skip(at).take(width);
+    for (byte, new) in field.zip(number.to_le_bytes()) {
+        *byte = new;
+    }
+}
+
+/// A relocation: its offset and its type.
+pub type Place = (u64, u64);
+
+/// Makes the section whose header is at an offset one of relocations of section 1 with the symbols of section 4, and puts its entry
+/// at another offset.
+pub fn put_relocation(bytes: &mut [u8], header: usize, entry: usize, place: Place) {
+    put(bytes, header.saturating_add(40), 4, 4);
+    put(bytes, header.saturating_add(44), 1, 4);
+    put(bytes, header.saturating_add(56), 24, 8);
+    put(bytes, entry, place.0, 8);
+    put(bytes, entry.saturating_add(8), 0x1_0000_0000 | place.1, 8);
+}
