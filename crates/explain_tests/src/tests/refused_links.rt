@@ -136,6 +136,20 @@ const ODD: File = File::Bytes(
       \x7fELF",
 );
 
+/// The same before the long names, among which the last member's is.
+const ODD_BEFORE_NAMES: File = File::Bytes(
+    "l.a",
+    b"!<arch>\n\
+      /               0           0     0     644     10        `\n\
+      \0\0\0\x01\0\0\0\xd6f\0\
+      1.o/            0           0     0     644     1         `\n\
+      x\n\
+      //              0           0     0     644     14        `\n\
+      long/name.o/\n\n\
+      /0              0           0     0     644     4         `\n\
+      \x7fELF",
+);
+
 /// A file of the name of another one, which comes first.
 const LATER: File = File::Bytes(
     "b.a",
@@ -146,12 +160,18 @@ const LATER: File = File::Bytes(
       \x7fELF",
 );
 
-const FILES: [Row; 14] = [
+const FILES: [Row; 15] = [
     (
         &[PLAIN, ODD],
         "a.o -u f o.a",
         9,
         "o.a(odd.o at 0x8c): Truncated (2): shorter than the header of an ELF file\n",
+    ),
+    (
+        &[PLAIN, ODD_BEFORE_NAMES],
+        "a.o -u f l.a",
+        9,
+        "l.a(long/name.o at 0xd6): Truncated (2): shorter than the header of an ELF file\n",
     ),
     (
         &[PLAIN, BROKEN, LATER],
