@@ -97,6 +97,18 @@ const MAP_TORN: NewFiles = NewFiles {
     ..SOUND
 };
 
+/// There is no folder `no`.
+const NO_FOLDER: NewFiles = NewFiles {
+    locked: Some(("no/", ErrorKind::NotFound)),
+    ..SOUND
+};
+
+/// There is no memory for the map's new file.
+const MAP_POOR: NewFiles = NewFiles {
+    locked: Some((".a.map", ErrorKind::OutOfMemory)),
+    ..SOUND
+};
+
 /// There is no memory for a new file, or to give it its name.
 const POOR: NewFiles = NewFiles {
     locked: Some(("", ErrorKind::OutOfMemory)),
@@ -122,7 +134,7 @@ const SLOW: NewFiles = NewFiles {
 };
 
 /// Lines, how new files answer, all that comes of a run but the bytes of files, and the paths of what it leaves.
-static ROWS: [(&str, NewFiles, &str, &str); 28] = [
+static ROWS: [(&str, NewFiles, &str, &str); 30] = [
     (
         "a.o b.o -Map=a.map",
         SLOW,
@@ -221,6 +233,18 @@ static ROWS: [(&str, NewFiles, &str, &str); 28] = [
         MAP_TORN,
         "stat a.out\nstat a.map\nread a.o\nopen a.out\nnew .a.out.ld-0\nmode 100755\nopen a.map\nnew .a.map.ld-0\nremove .a.map.ld-0\nrename .a.out.ld-0 to a.out\nout: \nerr: ld: cannot write a.map\n\nstatus 3",
         "a.out ",
+    ),
+    (
+        "a.o -Map=no/m.map",
+        NO_FOLDER,
+        "stat a.out\nstat no/m.map\nread a.o\nopen a.out\nnew .a.out.ld-0\nmode 100755\nopen no/m.map\nnew no/.m.map.ld-0\nrename .a.out.ld-0 to a.out\nout: \nerr: ld: cannot write no/m.map\n\nstatus 3",
+        "a.out ",
+    ),
+    (
+        "a.o -Map=a.map",
+        MAP_POOR,
+        "stat a.out\nstat a.map\nread a.o\nopen a.out\nnew .a.out.ld-0\nmode 100755\nopen a.map\nnew .a.map.ld-0\nremove .a.out.ld-0\nout: \nerr: ld: Memory (1)\n\nstatus 4",
+        "",
     ),
     (
         "a.o",

@@ -1,8 +1,8 @@
 //! What a run makes, and in which order: a new file beside each path, which gets its name at the
 //! end; and what is there after a fault.
 use crate::tests::machine::{Kind, NewFiles, SOUND, StoredFile};
-use crate::tests::runs::run_line_with;
-use link_samples::vectors::OBJECT;
+use crate::tests::runs::{Program, run_line_with, run_program_line};
+use link_samples::vectors::{MAP, OBJECT};
 use std::alloc::Global;
 use std::io::ErrorKind;
 use std::test::Fail;
@@ -398,6 +398,21 @@ fn outputs_are_whole_or_not_there(rt: HostRuntime) -> Result<(), Fail> {
         let (told, paths) = outcome(rt.alloc(), line, *new_files)?;
         assert_eq!(rt; told.as_str(), *wanted, "{line}");
         assert_eq!(rt; paths.as_str(), *left, "{line}");
+    }
+    Ok(())
+}
+
+#[test]
+fn the_file_of_one_path_is_the_map(rt: HostRuntime) -> Result<(), Fail> {
+    let stored = [StoredFile::sound("a.o", &OBJECT)];
+    for program in [Program::Ld, Program::Debug] {
+        let line = "-s a.o -o both -Map=both";
+        let run = run_program_line(rt.alloc(), program, &stored, SOUND, line)?;
+        let [both] = run.made.as_slice() else {
+            return Err(Fail::from("one file"));
+        };
+        assert_eq!(rt; both.name.as_str(), "both");
+        assert!(rt; both.bytes.as_slice() == MAP);
     }
     Ok(())
 }

@@ -1,6 +1,6 @@
 //! Images with pages of zeros: which bytes are passed over, and what the file holds.
 use crate::tests::machine::{Kind, NewFiles, SOUND, StoredFile};
-use crate::tests::runs::{Outcome, run_line, run_line_with};
+use crate::tests::runs::{Outcome, Program, run_line, run_line_with, run_program_line};
 use link_samples::objects::{Section, relocatable};
 use link_samples::parts::{DATA, START, TEXT};
 use std::alloc::Global;
@@ -137,5 +137,38 @@ fn an_image_with_holes_is_a_right_link(rt: HostRuntime) -> Result<(), Fail> {
         check.told.as_str(),
         "read far.o\nread a.out\nread a.map\nout: yes\n\nerr: \nstatus 0"
     );
+    Ok(())
+}
+
+/// Debug data of one byte at a multiple of 2^21, of two names.
+const INFO: Section<'static> = Section {
+    name: ".debug_info",
+    sh_flags: 0,
+    sh_addralign: 1 << 21,
+    bytes: &[1],
+    ..TEXT
+};
+
+const LINES: Section<'static> = Section {
+    name: ".debug_line",
+    ..INFO
+};
+
+/// The text ends at 0x1009, the debug data are at 0x200000 and at 0x400000: whole pages are between from 0x2000 on, and from
+/// 0x201000 on.
+const PAGES_BETWEEN: u64 = 0x1f_e000 + 0x1f_f000;
+
+#[test]
+fn zeros_between_debug_data_are_passed_over(rt: HostRuntime) -> Result<(), Fail> {
+    let alloc = rt.alloc();
+    let object = relocatable(alloc, &[TEXT, INFO, LINES], &[START], &[])?;
+    let stored = [StoredFile::sound("a.o", &object)];
+    let run = run_program_line(alloc, Program::Debug, &stored, SOUND, "a.o")?;
+    let [image] = run.made.as_slice() else {
+        return Err(Fail::from("an image"));
+    };
+    assert_eq!(rt; image.bytes.get(0x20_0000).copied(), Some(1));
+    assert_eq!(rt; image.bytes.get(0x40_0000).copied(), Some(1));
+    assert!(rt; run.passed >= PAGES_BETWEEN, "{}", run.passed);
     Ok(())
 }

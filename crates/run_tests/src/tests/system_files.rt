@@ -106,6 +106,32 @@ fn an_old_output_is_replaced(rt: HostRuntime) -> Result<(), Fail> {
     Ok(())
 }
 
+/// Two names of one file, as a second link and as a symbolic one.
+static NAMES_OF_ONE: [(&str, &str); 2] = [
+    ("two_files/one", "two_files/second"),
+    ("two_files/one", "two_files/symbolic"),
+];
+
+#[test]
+fn two_names_of_one_file_get_the_image_and_the_map(rt: HostRuntime) -> Result<(), Fail> {
+    prepare(&rt, "two_files", &OBJECT)?;
+    let image = image(rt.alloc())?;
+    fs::write(&rt, "two_files/one", b"old".as_slice())?;
+    fs::hard_link(&rt, "two_files/one", "two_files/second")?;
+    symlink(&rt, "one", "two_files/symbolic")?;
+    for (start, map) in &NAMES_OF_ONE {
+        let line = format!(in rt.alloc(); "-s two_files/a.o -o {start} -Map={map}")?;
+        let (status, err) = run(&rt, &line)?;
+        assert_eq!(rt; status, 0, "{err}");
+        assert!(rt; holds(&rt, start, &image)?, "{line}");
+        let check = format!(in rt.alloc(); "{line} --check")?;
+        let (verdict, _) = run(&rt, &check)?;
+        assert_eq!(rt; verdict, 0, "{line}");
+    }
+    fs::remove_dir_all(&rt, "two_files")?;
+    Ok(())
+}
+
 /// Lines whose output is a device, a folder or nowhere; what becomes of them.
 static DEVICES: [(&str, u8, &str); 6] = [
     ("-s dev_files/a.o -o /dev/null", 0, ""),
