@@ -339,10 +339,10 @@ fn images_for_tools_are_whole_or_not_there(rt: HostRuntime) -> Result<(), Fail> 
     Ok(())
 }
 
-/// Whether bytes have a text in them.
-fn has(bytes: &[u8], text: &str) -> bool {
+/// Whether bytes have some others in them.
+fn has(bytes: &[u8], part: &[u8]) -> bool {
     for at in 0..bytes.len() {
-        if matches!(bytes.get(at..), Some(rest) if rest.starts_with(text.as_bytes())) {
+        if matches!(bytes.get(at..), Some(rest) if rest.starts_with(part)) {
             return true;
         }
     }
@@ -366,10 +366,20 @@ fn words_say_what_an_image_has(rt: HostRuntime) -> Result<(), Fail> {
         let [image] = run.made.as_slice() else {
             return Err(Fail::from("an image"));
         };
-        assert_eq!(rt; has(&image.bytes, ".debug_info"), *data, "{line}");
-        assert_eq!(rt; has(&image.bytes, "hidden"), *locals, "{line}");
-        assert!(rt; has(&image.bytes, "_start"), "{line}");
+        assert_eq!(rt; has(&image.bytes, b".debug_info"), *data, "{line}");
+        assert_eq!(rt; has(&image.bytes, b"hidden"), *locals, "{line}");
+        assert!(rt; has(&image.bytes, b"_start"), "{line}");
     }
+    Ok(())
+}
+
+#[test]
+fn data_with_undone_relocations_are_in_the_image(rt: HostRuntime) -> Result<(), Fail> {
+    let run = outcome(rt.alloc(), SOUND, "a.o strange.o")?;
+    let [image] = run.made.as_slice() else {
+        return Err(Fail::from("an image"));
+    };
+    assert!(rt; has(&image.bytes, LINES.bytes));
     Ok(())
 }
 
