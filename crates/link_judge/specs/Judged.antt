@@ -1,9 +1,8 @@
 -- What a judgement says of a link.
-use Rattle.std.specs.Prelude.{◌≡◌, ◌⊎◌, ℕ, ◌<◌, List, true, Any}
-use Rattle.elf_model.specs.Image.MemoryImage.{program_headers}
+use Rattle.std.specs.Prelude.{◌≡◌, ◌⊎◌, ℕ, ◌<◌, List, true}
 use Rattle.elf_model.specs.Inputs.Files.{File}
 use Rattle.judge_model.specs.Certificates.{CertificateRecord, IsInOrder}
-use Rattle.judge_model.specs.Headers.{IsProgram, pt_gnu_eh_frame}
+use Rattle.judge_model.specs.Headers.{IsProgram}
 use Rattle.judge_model.specs.Loaded.{AreReadable}
 use Rattle.judge_model.specs.Links.{ForeignLink}
 use Rattle.judge_model.specs.Plans.{ForeignPlan}
@@ -11,7 +10,7 @@ use Rattle.judge_model.specs.RightForeign.{Holds, IsJudged, IsShown}
 use Rattle.judge_model.specs.Words.{IsAsked}
 use Rattle.judge_model.specs.declared.judgement.Requirement.{Requirement}
 use Rattle.judge_model.specs.declared.judgement.Requirement.TheVariants.{F1, F2, F3, F4, F5, F6, F7, F8, F9, F10, F11, F12, F13}
-use Rattle.link_judge.specs.Inputs.{AreArraysWhole, AreFieldsSound, AreObjectsSound, AreUnedited}
+use Rattle.link_judge.specs.Inputs.{AreArraysWhole, AreFieldsSound, AreNamesUnmixed, AreNotesJoined, AreObjectsSound, AreUnedited, HasNoFrameTable}
 use Rattle.link_judge.specs.declared.judgement.Judgement.{Judgement}
 use Rattle.link_judge.specs.declared.judgement.Judgement.TheVariants.{No, NotJudged, Yes}
 use Rattle.link_judge.specs.declared.judgement.Reason.{Reason}
@@ -50,22 +49,19 @@ pub record Fails (f : Requirement) (l : ForeignLink) : Type 0 where
   pub fails : ¬ Holds f l
   pub told : IsTold f l
 
--- the image has a table of frames
-abbrev pub HasFrameTable : List ℕ → Type 0
-HasFrameTable image = Any (λ h. h.p_type ≡ pt_gnu_eh_frame) (program_headers image)
-
 -- Why a link isn't judged: its words ask for --gc-sections; or a part of IsJudged doesn't hold; or fields or bytes aren't right,
--- which may be as the linker rewrote code, or gaps aren't, where there is a table of frames: no rule says yet whether that is
--- right.
+-- which may be as the linker rewrote code of a kind of which no rule says yet whether that is right.
 abbrev pub IsReason : Reason → ForeignLink → Type 0
 IsReason reason.Unused l = l.plan.collects ≡ true
 IsReason reason.Unreadable l = ¬ AreReadable l.files l.plan.plan
 IsReason reason.Objects l = ¬ AreObjectsSound l
 IsReason reason.Arrays l = ¬ AreArraysWhole l
 IsReason reason.Edited l = ¬ AreUnedited l
+IsReason reason.Joined l = ¬ AreNotesJoined l
+IsReason reason.Mixed l = ¬ AreNamesUnmixed l
 IsReason reason.Fields l = ¬ AreFieldsSound l
+IsReason reason.Frames l = ¬ HasNoFrameTable l
 IsReason reason.Code l = (¬ Holds F5 l) ⊎ (¬ Holds F7 l)
-IsReason reason.Frames l = (¬ Holds F10 l) × HasFrameTable l.image
 
 -- a yes: the link is judged, and all requirements hold
 abbrev pub Judges : Judgement → ForeignLink → Type 0

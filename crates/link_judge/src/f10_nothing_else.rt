@@ -12,7 +12,7 @@ use gap_judge::are_gaps_filled;
 use judge_stages::{BoundClaim, PlacedClaim};
 use link_fields::slots_of;
 use memory_judge::Taken;
-use name_judge::are_ends_behind_slots;
+use name_judge::do_bounds_spare_slots;
 use note_judge::are_notes_right;
 use run_judge::{RunPair, run_gaps};
 use std::alloc::{AllocError, Global};
@@ -27,7 +27,7 @@ fn has_right_notes(placed: &PlacedClaim<'_, '_>) -> bool
     are_notes_right(placed.image(), objects, notes, claim.wider.features)
 }
 
-/// Whether the end of all is behind the slots, and gaps have fill, given where no slot may be, and the neighbours of runs.
+/// Whether the names for where zeros begin and for the end of all spare the slots, and gaps have fill, given where no slot may be, and the neighbours of runs.
 fn is_filled(
     alloc: Global,
     bound: &BoundClaim<'_, '_, '_>,
@@ -40,7 +40,7 @@ fn is_filled(
 {
     let placed = bound.placed();
     let slots = slots_of(alloc, bound.parts(), taken, placed.drops())?;
-    if !are_ends_behind_slots(bound.parts(), &slots) {
+    if !do_bounds_spare_slots(bound.parts(), &slots) {
         return Ok(false);
     }
     let gaps = run_gaps(alloc, pairs)?;

@@ -1,15 +1,17 @@
 //! Whether the inputs of a link are of a kind that is judged, and why not.
 ghost use Rattle.std.specs.Prelude.{◌≡◌, ◌↔◌, IfOk, IfSome, IsTrue, None};
 ghost use Rattle.judge_model.specs.Loaded.{AreReadable};
-ghost use Rattle.judge_model.specs.RightForeign.{IsJudged};
-ghost use Rattle.link_judge.specs.Inputs.{AreFieldsSound, AreObjectsSound, AreUnedited};
+ghost use Rattle.link_judge.specs.Inputs.{AreFieldsSound, AreInputsSound, AreNamesUnmixed, AreNotesJoined, AreObjectsSound, AreSectionsSound, AreUnedited};
 ghost use Rattle.link_judge.specs.Judged.{IsReason};
 
 use crate::judgement::Reason;
+use check_link::Outputs;
 use input_judge::{
-    are_arrays_whole, are_compiled, are_fields_apart, are_fields_inside, are_unedited, are_unique,
+    are_arrays_whole, are_compiled, are_fields_apart, are_fields_inside, are_instructions_whole,
+    are_notes_joined, are_unedited, are_unique,
 };
 use judge_stages::LoadedClaim;
+use name_judge::are_names_unmixed;
 use std::alloc::{AllocError, Global};
 
 /// Whether the words let the first of two definitions count.
@@ -42,7 +44,25 @@ fn are_pieces_unedited(alloc: Global, loaded: &LoadedClaim<'_, '_>) -> Result<bo
     are_unedited(alloc, loaded.names().objects(), loaded.pieces(), places)
 }
 
-/// Whether fields are inside their sections and apart.
+/// Whether no property note has a line.
+fn are_properties_joined(alloc: Global, loaded: &LoadedClaim<'_, '_>) -> Result<bool, AllocError>
+    ensures { IfOk result (λ b. IsTrue b ↔ AreNotesJoined loaded.now) }
+{
+    let places = &loaded.claim().certificate.places;
+    are_notes_joined(alloc, loaded.pieces(), places)
+}
+
+/// Whether names for where sections begin and end speak of one run of them.
+fn are_bounds_unmixed(alloc: Global, loaded: &LoadedClaim<'_, '_>) -> Result<bool, AllocError>
+    ensures { IfOk result (λ b. IsTrue b ↔ AreNamesUnmixed loaded.now) }
+{
+    let outputs = Outputs::new(alloc, loaded.pieces())?;
+    let rows = &loaded.claim().certificate.names;
+    let unmixed = are_names_unmixed(loaded.names(), &outputs, rows);
+    Ok(unmixed)
+}
+
+/// Whether fields are inside their sections and apart, and no symbol is inside an instruction that linkers may rewrite.
 fn are_fields_sound(alloc: Global, loaded: &LoadedClaim<'_, '_>) -> Result<bool, AllocError>
     ensures { IfOk result (λ b. IsTrue b ↔ AreFieldsSound loaded.now) }
 {
@@ -53,26 +73,49 @@ fn are_fields_sound(alloc: Global, loaded: &LoadedClaim<'_, '_>) -> Result<bool,
     if !are_fields_apart(alloc, objects, loaded.drops())? {
         return Ok(false);
     }
+    if !are_instructions_whole(alloc, objects, loaded.drops())? {
+        return Ok(false);
+    }
     Ok(true)
 }
 
-/// Why a link isn't judged whose inputs can be read; None where it is.
-pub fn reason_against(
+/// What there is against the sections and names of a link; None where nothing is.
+fn reason_of_sections(
     alloc: Global,
     loaded: &LoadedClaim<'_, '_>,
 ) -> Result<Option<Reason>, AllocError>
-    requires readable { AreReadable loaded.now.files loaded.now.plan.plan }
-    ensures judged { IfOk result (λ o. o ≡ None → IsJudged loaded.now) }
+    ensures sound { IfOk result (λ o. o ≡ None → AreSectionsSound loaded.now) }
     ensures reason { IfOk result (λ o. IfSome o (λ r. IsReason r loaded.now)) }
 {
-    if !are_objects_sound(loaded) {
-        return Ok(Some(Reason::Objects));
-    }
     if !are_arrays_whole(loaded.pieces()) {
         return Ok(Some(Reason::Arrays));
     }
     if !are_pieces_unedited(alloc, loaded)? {
         return Ok(Some(Reason::Edited));
+    }
+    if !are_properties_joined(alloc, loaded)? {
+        return Ok(Some(Reason::Joined));
+    }
+    if !are_bounds_unmixed(alloc, loaded)? {
+        return Ok(Some(Reason::Mixed));
+    }
+    Ok(None)
+}
+
+/// Why a link isn't judged whose inputs can be read, whatever its image is; None where it may be.
+pub fn reason_against(
+    alloc: Global,
+    loaded: &LoadedClaim<'_, '_>,
+) -> Result<Option<Reason>, AllocError>
+    requires readable { AreReadable loaded.now.files loaded.now.plan.plan }
+    ensures sound { IfOk result (λ o. o ≡ None → AreInputsSound loaded.now) }
+    ensures reason { IfOk result (λ o. IfSome o (λ r. IsReason r loaded.now)) }
+{
+    if !are_objects_sound(loaded) {
+        return Ok(Some(Reason::Objects));
+    }
+    if let Some(reason) = reason_of_sections(alloc, loaded)? {
+        return Ok(Some(reason));
     }
     if !are_fields_sound(alloc, loaded)? {
         return Ok(Some(Reason::Fields));

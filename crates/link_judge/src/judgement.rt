@@ -15,12 +15,16 @@ pub enum Reason {
     Arrays,
     /// Strings, constants or frames that its linker edited.
     Edited,
-    /// Fields that overlap, or leave their section.
+    /// A line for a property note, which linkers join.
+    Joined,
+    /// A name for where an output name begins or ends, whose sections are of several runs.
+    Mixed,
+    /// Fields that overlap or leave their section, or a symbol inside an instruction that linkers may rewrite.
     Fields,
-    /// Fields or bytes aren't right, but its linker may have rewritten code.
-    Code,
-    /// Gaps aren't filled as they should be, but its linker made a table of frames.
+    /// A table of frames.
     Frames,
+    /// Fields or bytes aren't right, but its linker may have rewritten code for thread-local storage.
+    Code,
 }
 
 /// What a judge answers.

@@ -14,7 +14,6 @@ mod f10_nothing_else;
 mod f11_entry;
 mod f12_headers;
 mod f13_tables;
-mod frames;
 mod inputs;
 mod judgement;
 mod rewrites;

@@ -11,9 +11,9 @@ ghost use Rattle.judge_model.specs.Loaded.{AreReadable};
 ghost use Rattle.judge_model.specs.RightForeign.{Holds, IsJudged};
 ghost use Rattle.judge_model.specs.declared.judgement.Requirement.TheVariants as which;
 ghost use Rattle.foreign_words.specs.Spoken.{IsSpokenBy, IsWhole};
+ghost use Rattle.link_judge.specs.Inputs.{AreInputsSound};
 ghost use Rattle.link_judge.specs.Judged.{HoldsBefore, IsJudgedBy, Judges, link_of};
 
-use crate::frames::has_frame_table;
 use crate::judgement::{Judgement, Reason};
 use crate::rewrites::may_be_rewritten;
 use crate::{
@@ -26,6 +26,7 @@ use check_load::NamedObjects;
 use elf_model::{InputFile, NameSeed};
 use foreign_image::ForeignImage;
 use foreign_words::Spoken;
+use input_judge::has_no_frame_table;
 use judge_model::{Certificate, Requirement};
 use judge_stages::{BoundClaim, Claim, LoadedClaim, PlacedClaim, borrowed_commons, plain_pieces};
 use link_fields::Addresses;
@@ -94,19 +95,6 @@ fn no_code(requirement: Requirement, placed: &PlacedClaim<'_, '_>) -> Judgement
     no(requirement, placed.claim())
 }
 
-/// The answer where gaps aren't filled, or notes aren't right: not judged where the linker made a table of frames.
-fn no_fill(placed: &PlacedClaim<'_, '_>) -> Judgement
-    requires judged { IsJudged placed.now }
-    requires before { HoldsBefore which.F10 placed.now }
-    requires fails { ¬ Holds which.F10 placed.now }
-    ensures { Judges result placed.now }
-{
-    if has_frame_table(placed.image()) {
-        return Judgement::NotJudged(Reason::Frames);
-    }
-    no(Requirement::F10, placed.claim())
-}
-
 /// Judges a link without a script and without --gc-sections.
 fn judge_claim<'a>(
     alloc: Global,
@@ -152,7 +140,7 @@ fn judge_loaded<'a>(
     judge_image(alloc, &loaded, seed)
 }
 
-/// Judges a link whose inputs are judged.
+/// Judges a link of whose inputs nothing speaks against that.
 fn judge_image<'a>(
     alloc: Global,
     loaded: &LoadedClaim<'_, 'a>,
@@ -161,7 +149,7 @@ fn judge_image<'a>(
     requires collects { loaded.now.plan.collects ≡ false }
     requires script { loaded.now.plan.script ≡ None }
     requires ordered { IsInOrder loaded.now.certificate }
-    requires judged { IsJudged loaded.now }
+    requires sound { AreInputsSound loaded.now }
     requires first { Holds which.F1 loaded.now }
     ensures { IfOk result (λ j. Judges j loaded.now) }
 {
@@ -169,8 +157,29 @@ fn judge_image<'a>(
     let Some(image) = ForeignImage::read(alloc, View::new(claim.image))? else {
         return Ok(Judgement::No(Requirement::F12));
     };
+    if !has_no_frame_table(image.headers()) {
+        return Ok(Judgement::NotJudged(Reason::Frames));
+    }
+    judge_kept(alloc, loaded, image, seed)
+}
+
+/// Judges a link from the second requirement on.
+fn judge_kept<'a>(
+    alloc: Global,
+    loaded: &LoadedClaim<'_, 'a>,
+    image: ForeignImage<'a>,
+    seed: Option<NameSeed>,
+) -> Result<Judgement, AllocError>
+    requires collects { loaded.now.plan.collects ≡ false }
+    requires script { loaded.now.plan.script ≡ None }
+    requires ordered { IsInOrder loaded.now.certificate }
+    requires judged { IsJudged loaded.now }
+    requires image { image ≡ loaded.now.image }
+    requires first { Holds which.F1 loaded.now }
+    ensures { IfOk result (λ j. Judges j loaded.now) }
+{
     if !f02_kept::holds(alloc, loaded)? {
-        return Ok(no(Requirement::F2, claim));
+        return Ok(no(Requirement::F2, loaded.claim()));
     }
     judge_sections(alloc, loaded, image, seed)
 }
@@ -269,7 +278,7 @@ fn judge_rests(
         return Ok(no(Requirement::F9, claim));
     }
     if !f10_nothing_else::holds(alloc, bound, taken, pairs)? {
-        return Ok(no_fill(bound.placed()));
+        return Ok(no(Requirement::F10, claim));
     }
     judge_headers(alloc, bound, seed)
 }

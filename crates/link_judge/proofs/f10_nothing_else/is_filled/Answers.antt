@@ -27,10 +27,14 @@ returns c =
     let slots =
     c.in_ok-slots.ensures l (sym c.parts.ensures) (sym (c.drops.ensures ∙ ap (λ (x : ForeignLink). x.certificate.drops) placed)) c.requires.taken in
     let gaps : AreRunGaps l c.in_ok-gaps.gaps.items = record { some = c.in_ok-gaps.ensures.some; rising = c.in_ok-gaps.ensures.rising; gaps_are = c.in_ok-gaps.ensures.gaps l c.requires.pairs } in
-    let ends = c.are_ends_behind_slots.ensures l (sym c.parts-2.ensures) (subst (AreSlots l) (sym c.deref.ensures.value) slots) in
+    let bounds = c.do_bounds_spare_slots.ensures l (sym c.parts-2.ensures) (subst (AreSlots l) (sym c.deref.ensures.value) slots) in
     let filled =
     c.in_ok-are_gaps_filled.ensures l (sym (c.image.ensures ∙ ap (λ (x : ForeignLink). x.image) placed)) (sym (c.things.ensures ∙ ap things_of placed))
     (subst (AreSlots l) (sym c.deref-2.ensures.value) slots) (subst (AreRunGaps l) (sym c.deref-3.ensures.value) gaps) in (
-      λ _. record { ends = ends.0 c.if-not-are_ends_behind_slots.false; gaps = (filled.0 c.if-not-branch.false).gaps },
+      λ _. record {
+        ends = (bounds.0 c.if-not-do_bounds_spare_slots.false).0;
+        starts = (bounds.0 c.if-not-do_bounds_spare_slots.false).1;
+        gaps = (filled.0 c.if-not-branch.false).gaps;
+      },
       λ _. refl,
     )

@@ -17,10 +17,10 @@ no-requires-clause-before c =
     before_next l F8 F9 refl (before_next l F7 F8 refl c.requires.before (c.in_ok-holds.ensures.0 c.if-not-branch.false)) tt in
     subst (HoldsBefore F9) (sym (c.claim-claim.ensures ∙ c.placed.ensures)) ninth
 
-pub no_fill-requires-clause-before : goal.no_fill-requires-clause-before
-no_fill-requires-clause-before c =
+pub no-requires-then-not-branch-2-clause-before : goal.no-requires-then-not-branch-2-clause-before
+no-requires-then-not-branch-2-clause-before c =
     let l = c.args.bound.now in
     let ninth =
     before_next l F8 F9 refl (before_next l F7 F8 refl c.requires.before (c.in_ok-holds.ensures.0 c.if-not-branch.false)) tt in
     let threads = subst (Holds F9) c.placed-2.ensures (c.holds-2.ensures.0 c.if-not-holds.false) in
-    subst (HoldsBefore F10) (sym c.placed-then-not-branch-2.ensures) (before_next l F9 F10 refl ninth threads)
+    subst (HoldsBefore F10) (sym (c.claim-claim.ensures ∙ c.placed.ensures)) (before_next l F9 F10 refl ninth threads)
