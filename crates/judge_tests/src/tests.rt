@@ -8,6 +8,7 @@ mod gaps;
 mod header_rights;
 mod images;
 mod judged_inputs;
+mod judgements;
 mod kept_sections;
 mod linker_names;
 mod loading_orders;
