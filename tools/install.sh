@@ -6,10 +6,11 @@
 #
 # PREFIX is an absolute path, /usr/local where none is given; before it goes $DESTDIR. There will be
 #
-#     bin/cakthuy-ld, bin/cakthuy-ld-why      the programs (ld-why, and cakthuy-ld-debug, where they are built)
+#     bin/cakthuy-ld, bin/cakthuy-ld-why      the programs (ld-why, and cakthuy-ld-debug and cakthuy-ld-judge, where they are built)
 #     bin/cakthuy-cc, bin/cakthuy-cc-static   compilers that link by ours; for C++ cakthuy-c++ and cakthuy-c++-static, one script
 #     libexec/cakthuy                         ld, cc and so on: `gcc -B PREFIX/libexec/cakthuy` links by ours (docs/DRIVER.md)
-#     libexec/cakthuy/judge                   link.py and judge.py (docs/JUDGING.md)
+#     libexec/cakthuy/judge                   link.py, judge.py and certificate.py; in bin, linkers whose links are judged
+#                                             (docs/JUDGING.md)
 #     share/man                               the manual
 #
 # Nothing is compiled here: `rt ci`, or `rt run` in crates/ld and crates/ld_why, proves and builds the programs. With
@@ -84,6 +85,7 @@ fi
 program ld cakthuy-ld
 program ld_why cakthuy-ld-why
 program ld_debug cakthuy-ld-debug
+program ld_judge cakthuy-ld-judge
 
 put 755 "$root/tools/driver/ld" libexec/cakthuy/ld
 for name in cc c++ cc-static c++-static; do
@@ -102,10 +104,13 @@ put 644 "$commit" libexec/cakthuy/commit
 
 for script in "$root"/tools/judge/*.py; do
     case $script in
-    */link.py | */judge.py) put 755 "$script" "libexec/cakthuy/judge/${script##*/}" ;;
+    */link.py | */judge.py | */certificate.py) put 755 "$script" "libexec/cakthuy/judge/${script##*/}" ;;
     */test.py) ;;
     *) put 644 "$script" "libexec/cakthuy/judge/${script##*/}" ;;
     esac
+done
+for script in "$root"/tools/judge/bin/*; do
+    put 755 "$script" "libexec/cakthuy/judge/bin/${script##*/}"
 done
 for page in "$root"/docs/man/*.[0-9]; do
     put 644 "$page" "share/man/man${page##*.}/${page##*/}"
@@ -116,7 +121,7 @@ done
 
 if [ "$uninstall" = yes ]; then
     rm -rf "$to/libexec/cakthuy/judge/__pycache__"
-    for folder in libexec/cakthuy/judge libexec/cakthuy; do
+    for folder in libexec/cakthuy/judge/bin libexec/cakthuy/judge libexec/cakthuy; do
         [ ! -d "$to/$folder" ] || rmdir "$to/$folder" 2>/dev/null || true
     done
 fi

@@ -16,6 +16,8 @@ ROOT = Path(__file__).resolve().parent.parent.parent
 INSTALLED = (Path(__file__).resolve().parent.parent / "commit").is_file()
 PROVED = ROOT.parent / "bin" / "cakthuy-ld" if INSTALLED else ROOT / "crates" / "ld" / "out" / "ld"
 PROGRAM = os.environ.get("LD_PROGRAM", str(PROVED))
+# What hands on the words of other linkers that our `ld` takes.
+DRIVER = Path(__file__).resolve().parent.parent / ("ld" if INSTALLED else "driver/ld")
 
 
 class Skeleton(NamedTuple):
@@ -34,11 +36,12 @@ class Skeleton(NamedTuple):
         return f"{self.labels[place.owner]}:({self.section(place).name})"
 
 
-def run(words: List[str]) -> "subprocess.CompletedProcess[str]":
-    """Runs `ld`."""
+def run(words: List[str], driven: bool = False) -> "subprocess.CompletedProcess[str]":
+    """Runs `ld`; driven, by the script that stands in for other linkers, with words of theirs."""
     if not os.access(PROGRAM, os.X_OK):
         sys.exit(f"There is no linker at {PROGRAM}. To get the proved one in the tree: cd crates/ld && rt run")
-    return subprocess.run([PROGRAM] + words, stdout=subprocess.PIPE, text=True, check=False)
+    env = dict(os.environ, LD_PROGRAM=PROGRAM) if driven else None
+    return subprocess.run([str(DRIVER) if driven else PROGRAM] + words, stdout=subprocess.PIPE, text=True, env=env, check=False)
 
 
 def opened(loaded: linkmap.Loaded) -> Tuple[str, elf.ObjectFile]:
@@ -50,11 +53,11 @@ def opened(loaded: linkmap.Loaded) -> Tuple[str, elf.ObjectFile]:
     return f"{loaded.path}({name})", elf.ObjectFile(inner)
 
 
-def skeleton(words: List[str]) -> Skeleton:
+def skeleton(words: List[str], driven: bool = False) -> Skeleton:
     """Links the words by `ld`, without a symbol table, and opens what was loaded. Ends where the words are refused."""
     with tempfile.TemporaryDirectory() as folder:
         text = Path(folder) / "map"
-        made = run(words + ["-s", "-o", f"{folder}/image", f"-Map={text}"])
+        made = run(words + ["-s", "-o", f"{folder}/image", f"-Map={text}"], driven)
         if made.returncode != 0:
             sys.exit(made.returncode)
         found = linkmap.read(text.read_text())

@@ -31,6 +31,79 @@ done
 """
 
 
+# Stands for a linker whose links are judged: it tells its words, and writes an image and a map.
+PEER = """#!/bin/sh
+printf '%s\\n' "$@" >"$TOLD"
+[ -z "${PEER_FAILS-}" ] || exit 7
+while [ $# -gt 0 ]; do
+    case $1 in
+    -o) image=$2 ;;
+    -Map=*) map=${1#-Map=} ;;
+    esac
+    shift
+done
+head -c 64 /dev/zero >zeros
+printf '\\177ELF\\2\\1' | cat - zeros >"$image"
+echo 'VMA' >"$map"
+"""
+
+# Stands for the judge: it tells its words, and says what it is to say.
+JUDGE = """#!/bin/sh
+printf '%s\\n' "$@" >"$JUDGED"
+echo "$SAYS"
+exit "$STATUS"
+"""
+
+
+class StandIn(unittest.TestCase):
+    """The linker whose links are judged."""
+
+    def run_in(self, folder, words, says="yes", status="0", **more):
+        here = Path(folder)
+        for name, text in (("ld.peer", PEER), ("judge", JUDGE), ("ours", LINKER)):
+            (here / name).write_text(text)
+            (here / name).chmod(0o755)
+        env = dict(os.environ, LD_JUDGE=str(here / "judge"), JUDGED_LINKER=str(here / "ld.peer"), LD_PROGRAM=str(here / "ours"),
+                   TOLD=str(here / "told"), JUDGED=str(here / "judged"), SAYS=says, STATUS=status, **more)
+        return subprocess.run([str(HERE / "bin" / "ld"), *words], cwd=folder, env=env, stdout=subprocess.PIPE, stderr=subprocess.PIPE,
+                              text=True, check=False)
+
+    def test_the_linker_gets_the_very_words_and_a_map(self):
+        with tempfile.TemporaryDirectory() as folder:
+            made = self.run_in(folder, ["-static", "-o", "-x", "a b.o", "$(touch bad)"])
+            told = (Path(folder) / "told").read_text().splitlines()
+            self.assertEqual((made.returncode, made.stdout, made.stderr), (0, "", "judged: -x\n"))
+            self.assertEqual(told[:-1], ["-static", "-o", "-x", "a b.o", "$(touch bad)"])
+            self.assertTrue(told[-1].startswith("-Map=/"))
+            judged = (Path(folder) / "judged").read_text().splitlines()
+            self.assertTrue(judged[0].startswith("--certificate=/"))
+            self.assertEqual(judged[1:], told[:-1])
+            self.assertFalse((Path(folder) / "bad").exists())
+
+    def test_a_map_that_is_asked_for_is_the_only_one(self):
+        with tempfile.TemporaryDirectory() as folder:
+            self.run_in(folder, ["-o", "x", "-Map=own", "a.o"])
+            self.assertEqual((Path(folder) / "told").read_text(), "-o\nx\n-Map=own\na.o\n")
+            self.assertTrue((Path(folder) / "own").is_file())
+
+    def test_a_no_is_the_status_and_the_image_stays(self):
+        with tempfile.TemporaryDirectory() as folder:
+            made = self.run_in(folder, ["-o", "x", "a.o"], "no F5", "1")
+            self.assertEqual((made.returncode, made.stderr), (1, "no F5: x\n"))
+            self.assertTrue((Path(folder) / "x").is_file())
+
+    def test_what_is_not_judged_is_linked(self):
+        with tempfile.TemporaryDirectory() as folder:
+            made = self.run_in(folder, ["-o", "x", "a.o"], "not judged: words that aren't known", "5")
+            self.assertEqual((made.returncode, made.stderr), (0, "not judged: words that aren't known: x\n"))
+
+    def test_a_refused_link_is_not_judged(self):
+        with tempfile.TemporaryDirectory() as folder:
+            made = self.run_in(folder, ["-o", "x", "a.o"], PEER_FAILS="1")
+            self.assertEqual((made.returncode, made.stderr), (7, ""))
+            self.assertFalse((Path(folder) / "judged").exists())
+
+
 class Names(unittest.TestCase):
     def test_plain_names_stand_as_they_are(self):
         self.assertEqual(script.quoted(".text.f"), ".text.f")
@@ -50,12 +123,12 @@ class Maps(unittest.TestCase):
     HEAD = "          401000           401000        9     1         "
 
     def test_a_line_of_lld_has_a_file_and_a_section(self):
-        found = peers.of_lld([self.HEAD + "a(b):(c).o:(.text)", self.HEAD + "a.o:(.text", self.HEAD[:-8] + ".text"])
+        found = peers.of_table([self.HEAD + "a(b):(c).o:(.text)", self.HEAD + "a.o:(.text", self.HEAD[:-8] + ".text"], peers.LLD_LINE, 16)
         self.assertEqual({key: list(spots) for key, spots in found.items()}, {("a(b):(c).o", ".text"): [(0x401000, 9)]})
 
     def test_long_lines_take_no_time(self):
         begin = time.process_time()
-        peers.of_lld([self.HEAD + "a:(" * 100_000, self.HEAD + ":(" * 100_000 + ")", " " * 300_000])
+        peers.of_table([self.HEAD + "a:(" * 100_000, self.HEAD + ":(" * 100_000 + ")", " " * 300_000], peers.LLD_LINE, 16)
         peers.of_bfd(["Linker script and memory map", " " * 300_000, " a" * 100_000, " " + "a" * 300_000])
         self.assertLess(time.process_time() - begin, 2)
 

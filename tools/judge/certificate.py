@@ -1,0 +1,167 @@
+#!/usr/bin/env python3
+"""Makes the certificate of a link that lld, GNU ld, gold or mold made, for `ld-judge`.
+
+    tools/judge/certificate.py [--driven] IMAGE PEERMAP WORDS >CERTIFICATE
+
+IMAGE and PEERMAP are that linker's image, with its symbols, and its map (-Map); WORDS are those of our `ld` for the same link,
+which says which objects they load, and in which order; with --driven they are the other linker's own. The certificate is our map of these words with the addresses that PEERMAP
+and the image's symbols tell, and in front a line `note ADDRESS SIZE`, in decimal digits, for each note that the linker made. It needs
+no trust: with a wrong one `ld-judge` says no. LD_PROGRAM is our linker, where it isn't crates/ld/out/ld.
+"""
+
+import struct
+import sys
+from pathlib import Path
+from typing import Dict, Iterator, List, Optional, Tuple
+
+import elf
+import linkmap
+import peers
+from judge import by_numbers, part, put_commons, put_names, table_address, up
+from skeleton import Skeleton, skeleton
+
+PROPERTY = ".note.gnu.property"
+GOT_NAME = "_GLOBAL_OFFSET_TABLE_"
+# The names that linkers define, beside __start_N and __stop_N (docs/PROFILE.md).
+LINKERS_NAMES = set(
+    "_end end _edata edata _etext etext __bss_start __executable_start __ehdr_start __etext".split()
+    + f"__init_array_start __init_array_end __fini_array_start __fini_array_end {GOT_NAME}".split()
+    + "__preinit_array_start __preinit_array_end".split()
+)
+
+
+def put_places(link: Skeleton, spots: peers.Spots) -> None:
+    """Gives each section the address of the other linker's map. One that it has no line for, or one of another size, was edited and
+    gets no line; an empty one is at the end of the one before it of its kind."""
+    ends: Dict[Tuple[int, bool], int] = {}
+    kept: List[linkmap.Place] = []
+    for place in link.map.places:
+        section = link.section(place)
+        found = spots.get((link.labels[place.owner], section.name))
+        if found:
+            place.address, size = found.popleft()
+            if size == place.size:
+                ends[part(section)] = place.address + size
+                kept.append(place)
+        elif place.size == 0:
+            place.address = up(ends.get(part(section), 0), section.align)
+            kept.append(place)
+    least = min((place.address for place in kept if place.address), default=0)
+    for place in kept:
+        place.address = place.address or up(least, link.section(place).align)
+    link.map.places = kept
+
+
+def notes_in(image: elf.Image, segment: elf.Segment) -> Iterator[Tuple[int, int]]:
+    """The addresses and sizes of the notes of a PT_NOTE: three numbers, a name and a description (System V gABI 5, "Note Section")."""
+    at, end = segment.address, segment.address + segment.file_size
+    align = 8 if segment.align == 8 else 4
+    while at + 12 <= end:
+        name, size, _ = struct.unpack("<3I", image.memory(at, 12))
+        whole = -(-(12 + name) // align) * align + -(-size // align) * align
+        yield at, min(whole, end - at)
+        at += whole
+
+
+def made_notes(link: Skeleton, image: elf.Image) -> List[Tuple[int, int]]:
+    """The notes that are no section of an input."""
+    own = {place.address for place in link.map.places if place.size}
+    found = {note for segment in image.segments if segment.kind == elf.PT_NOTE for note in notes_in(image, segment)}
+    return sorted(note for note in found if note[0] not in own)
+
+
+def add_linkers_names(link: Skeleton, image: elf.Image) -> None:
+    """Adds the names that the linker defined and no object asks for, which the image's symbol table has."""
+    known = {linkmap.unescape(name.name) for name in link.map.names}
+    for name, value in image.values.items():
+        if name not in known and (name in LINKERS_NAMES or name.startswith(("__start_", "__stop_"))):
+            link.map.names.append(linkmap.Name(value, ("linker",), linkmap.escape(name)))
+    link.map.names.sort(key=lambda name: linkmap.unescape(name.name).encode(errors="surrogateescape"))
+
+
+# Relocations whose field tells its symbol's value, that of a slot, or the address of the table of slots: the bytes of the field,
+# whether it is signed, and whether it is counted from the field.
+TELLING = {1: (8, False, False), 2: (4, True, True), 4: (4, True, True), 10: (4, False, False), 11: (4, True, False), 24: (8, True, True)}
+SLOTTED = {9: (4, True, True), 41: (4, True, True), 42: (4, True, True)}
+TABLED = {26: (4, True, True), 29: (8, True, True)}
+
+
+def field_value(image: elf.Image, place: linkmap.Place, entry: elf.Relocation, form: Tuple[int, bool, bool]) -> int:
+    """What a field in the image tells: the formula's value without its addend and its place."""
+    width, signed, relative = form
+    address = place.address + entry.offset
+    field = int.from_bytes(image.memory(address, width), "little", signed=signed)
+    return (field - entry.addend + (address if relative else 0)) % 2**64
+
+
+def told_by_slot(it: elf.ObjectFile, image: elf.Image, place: linkmap.Place, entry: elf.Relocation) -> Optional[int]:
+    """What the field of a relocation to a slot tells of its name: the slot's value; or, where the linker has put lea or mov of the
+    address in place of the load (AMD64 psABI B.2), that address. None where it put something else there."""
+    before = it.content(entry.section)[max(entry.offset - 2, 0) : entry.offset]
+    after = image.memory(place.address + max(entry.offset - 2, 0), len(before))
+    if after == before:
+        return int.from_bytes(image.memory(field_value(image, place, entry, SLOTTED[entry.kind]), 8), "little")
+    if after[:1] == b"\x8d":
+        return field_value(image, place, entry, SLOTTED[entry.kind])
+    if after[:1] == b"\xc7":
+        return int.from_bytes(image.memory(place.address + entry.offset, 4), "little", signed=True) % 2**64
+    return None
+
+
+def told_by_fields(link: Skeleton, image: elf.Image) -> Dict[str, int]:
+    """The values that fields in the image tell of names that aren't LOCAL, and of the table of slots: of each the first that does."""
+    places = by_numbers(link)
+    told: Dict[str, int] = {}
+    for owner, it in enumerate(link.objects):
+        for entry in it.relocations():
+            symbol, place = it.symbols[entry.symbol], places.get((owner, entry.section))
+            if not place:
+                continue
+            if entry.kind in TABLED:
+                told.setdefault(GOT_NAME, field_value(image, place, entry, TABLED[entry.kind]))
+            elif symbol.binding != elf.LOCAL and symbol.name not in told:
+                if entry.kind in TELLING:
+                    told[symbol.name] = field_value(image, place, entry, TELLING[entry.kind])
+                elif entry.kind in SLOTTED:
+                    value = told_by_slot(it, image, place, entry)
+                    if value is not None:
+                        told[symbol.name] = value
+    return told
+
+
+def certificate(image_path: str, peer_path: str, words: List[str], driven: bool) -> str:
+    link = skeleton(words, driven)
+    data = Path(image_path).read_bytes()
+    if not data.startswith(b"\x7fELF\x02\x01"):
+        sys.exit(f"certificate.py: {image_path} is no ELF-64 image")
+    image = elf.Image(data)
+    link.map.places = [place for place in link.map.places if link.section(place).name != PROPERTY]
+    put_places(link, peers.read(Path(peer_path).read_text(errors="surrogateescape")))
+    # An image without a symbol table tells by its fields what names are.
+    image.values = {**told_by_fields(link, image), **image.values}
+    put_commons(link, image)
+    put_names(link, image, by_numbers(link))
+    add_linkers_names(link, image)
+    got = image.values.get(GOT_NAME) or table_address(image)
+    link.map.got = (got, 8) if got else None
+    link.map.slots = []
+    notes = "".join(f"note {address} {size}\n" for address, size in made_notes(link, image))
+    return notes + linkmap.write(link.map)
+
+
+def main() -> int:
+    driven = sys.argv[1:2] == ["--driven"]
+    given = sys.argv[2:] if driven else sys.argv[1:]
+    if len(given) < 3:
+        sys.exit("usage: certificate.py [--driven] IMAGE PEERMAP WORDS")
+    sys.stdout.write(certificate(given[0], given[1], given[2:], driven))
+    return 0
+
+
+if __name__ == "__main__":
+    try:
+        sys.exit(main())
+    except OSError as error:
+        sys.exit(f"certificate.py: {error}")
+    except (struct.error, IndexError, ValueError, OverflowError) as error:
+        sys.exit(f"certificate.py: the image or the map can't be read: {error}")
