@@ -495,6 +495,10 @@ INPUTS = {
     "lines": (line_tables, 20_000),
 }
 
+# Those of which `ld-debug` leaves the LOCAL symbols out, since their names, each spelled whole, would fill the disk.
+WITH_LONG_NAMES = ("locals", "local-slots")
+LEFT_OUT = "ld: left out the LOCAL symbols of 1 object: their names come to more bytes than the object has\n"
+
 # Those whose images have no tables for tools.
 WITHOUT_TABLES = ("map-objects", "map-slots", "map-symbols", "segments")
 
@@ -509,6 +513,8 @@ def answer(kind, name, step):
     """What a program must print in a step of an input, None for any text, and its status."""
     if kind == "ld-debug" and name in WITHOUT_TABLES and step.status == 0:
         return "no tables\n", 1
+    if kind == "ld-debug" and name in WITH_LONG_NAMES and step.name == "link":
+        return LEFT_OUT, 0
     if kind == "ld-why" and step.status == 1:
         return None, 1
     return step.expect, step.status
