@@ -5,17 +5,20 @@
 
 IMAGE and PEERMAP are that linker's image, with its symbols, and its map (-Map); WORDS are those of our `ld` for the same link,
 which says which objects they load, and in which order; with --driven they are the other linker's own. The certificate is our map of these words with the addresses that PEERMAP
-and the image's symbols tell, and in front a line `note ADDRESS SIZE`, in decimal digits, for each note that the linker made. It needs
-no trust: with a wrong one `ld-judge` says no. LD_PROGRAM is our linker, where it isn't crates/ld/out/ld.
+and the image's symbols tell. In front it has a line `note ADDRESS SIZE`, in decimal digits, for each note that the linker made, a line
+`area ADDRESS SIZE` for each area of merged strings and constants, and `merged OBJECT SECTION OFFSET SIZE ADDRESS` for each of these. It
+needs no trust: with a wrong one `ld-judge` says no. LD_PROGRAM is our linker, where it isn't crates/ld/out/ld.
 """
 
 import struct
 import sys
+from collections import deque
 from pathlib import Path
-from typing import Dict, Iterator, List, Optional, Tuple
+from typing import Dict, Iterator, List, Optional, Set, Tuple
 
 import elf
 import linkmap
+import merged
 import peers
 from judge import by_numbers, part, put_commons, put_names, table_address, up
 from skeleton import Skeleton, skeleton
@@ -30,9 +33,44 @@ LINKERS_NAMES = set(
 )
 
 
-def put_places(link: Skeleton, spots: peers.Spots) -> None:
+def merging(link: Skeleton) -> Set[Tuple[int, int]]:
+    """The sections that linkers may merge: none that relocations change."""
+    changed = {(owner, entry.section) for owner, it in enumerate(link.objects) for entry in it.relocations()}
+    keys = {(place.owner, place.section): link.section(place) for place in link.map.places}
+    return {key for key, section in keys.items() if merged.is_mergeable(section) and key not in changed}
+
+
+def without_merged(link: Skeleton, image: elf.Image, kept: List[linkmap.Place]) -> List[linkmap.Place]:
+    """The places without those of sections that linkers may merge, unless each of these is at its own with its bytes."""
+    keys = merging(link)
+    plain = [place for place in kept if (place.owner, place.section) not in keys]
+    others = [place for place in kept if (place.owner, place.section) in keys and place.size]
+    own = [place for place in link.map.places if (place.owner, place.section) in keys and place.size]
+    at = 0
+    for place in sorted(others, key=lambda place: place.address):
+        content = link.objects[place.owner].content(place.section)
+        if place.address < at or content != image.memory(place.address, len(content)):
+            return plain
+        at = place.address + place.size
+    return kept if len(others) == len(own) else plain
+
+
+def add_frames(link: Skeleton, image: elf.Image, spots: peers.Spots) -> None:
+    """Adds where call frames are that end a list and have nothing else: LLD and mold have no lines for any, and one list of their own."""
+    frames = [place for place in link.map.places if link.section(place).name == ".eh_frame"]
+    keys = [(link.labels[place.owner], ".eh_frame") for place in frames]
+    address = dict(image.sections).get(".eh_frame")
+    contents = [link.objects[place.owner].content(place.section) for place in frames]
+    if address is None or any(key in spots for key in keys) or any(any(content) for content in contents):
+        return
+    if sum(1 for content in contents if content) <= 1:
+        spots.update({key: deque([(address, place.size)]) for key, place in zip(keys, frames)})
+
+
+def put_places(link: Skeleton, image: elf.Image, spots: peers.Spots) -> None:
     """Gives each section the address of the other linker's map. One that it has no line for, or one of another size, was edited and
-    gets no line; an empty one is at the end of the one before it of its kind."""
+    gets no line, nor does any one of strings and constants then; an empty one is at the end of the one before it of its kind."""
+    add_frames(link, image, spots)
     ends: Dict[Tuple[int, bool], int] = {}
     kept: List[linkmap.Place] = []
     for place in link.map.places:
@@ -49,7 +87,7 @@ def put_places(link: Skeleton, spots: peers.Spots) -> None:
     least = min((place.address for place in kept if place.address), default=0)
     for place in kept:
         place.address = place.address or up(least, link.section(place).align)
-    link.map.places = kept
+    link.map.places = without_merged(link, image, kept)
 
 
 def notes_in(image: elf.Image, segment: elf.Segment) -> Iterator[Tuple[int, int]]:
@@ -108,6 +146,15 @@ def told_by_slot(it: elf.ObjectFile, image: elf.Image, place: linkmap.Place, ent
     return None
 
 
+def told_by(it: elf.ObjectFile, image: elf.Image, place: linkmap.Place, entry: elf.Relocation) -> Optional[int]:
+    """What the field of a relocation tells of its symbol's value; None where it tells nothing of it."""
+    if entry.kind in TELLING:
+        return field_value(image, place, entry, TELLING[entry.kind])
+    if entry.kind in SLOTTED:
+        return told_by_slot(it, image, place, entry)
+    return None
+
+
 def told_by_fields(link: Skeleton, image: elf.Image) -> Dict[str, int]:
     """The values that fields in the image tell of names that aren't LOCAL, and of the table of slots: of each the first that does."""
     places = by_numbers(link)
@@ -120,12 +167,9 @@ def told_by_fields(link: Skeleton, image: elf.Image) -> Dict[str, int]:
             if entry.kind in TABLED:
                 told.setdefault(GOT_NAME, field_value(image, place, entry, TABLED[entry.kind]))
             elif symbol.binding != elf.LOCAL and symbol.name not in told:
-                if entry.kind in TELLING:
-                    told[symbol.name] = field_value(image, place, entry, TELLING[entry.kind])
-                elif entry.kind in SLOTTED:
-                    value = told_by_slot(it, image, place, entry)
-                    if value is not None:
-                        told[symbol.name] = value
+                value = told_by(it, image, place, entry)
+                if value is not None:
+                    told[symbol.name] = value
     return told
 
 
@@ -136,7 +180,7 @@ def certificate(image_path: str, peer_path: str, words: List[str], driven: bool)
         sys.exit(f"certificate.py: {image_path} is no ELF-64 image")
     image = elf.Image(data)
     link.map.places = [place for place in link.map.places if link.section(place).name != PROPERTY]
-    put_places(link, peers.read(Path(peer_path).read_text(errors="surrogateescape")))
+    put_places(link, image, peers.read(Path(peer_path).read_text(errors="surrogateescape")))
     # An image without a symbol table tells by its fields what names are.
     image.values = {**told_by_fields(link, image), **image.values}
     put_commons(link, image)
@@ -145,8 +189,12 @@ def certificate(image_path: str, peer_path: str, words: List[str], driven: bool)
     got = image.values.get(GOT_NAME) or table_address(image)
     link.map.got = (got, 8) if got else None
     link.map.slots = []
-    notes = "".join(f"note {address} {size}\n" for address, size in made_notes(link, image))
-    return notes + linkmap.write(link.map)
+    notes = made_notes(link, image)
+    lines = merged.merged_lines(link, image, by_numbers(link), notes, lambda it, place, entry: told_by(it, image, place, entry))
+    front = [f"note {address} {size}" for address, size in notes]
+    front += [f"area {address} {size}" for address, size in merged.areas_of(lines)]
+    front += [f"merged {line.owner} {line.section} {line.offset} {line.size} {line.address}" for line in lines]
+    return "".join(f"{line}\n" for line in front) + linkmap.write(link.map)
 
 
 def main() -> int:

@@ -24,6 +24,7 @@ class Section(NamedTuple):
     link: int
     info: int
     align: int
+    entry_size: int
 
 
 class Symbol(NamedTuple):
@@ -51,7 +52,7 @@ def section_table(data: bytes) -> List[Section]:
     start, size, count, names = struct.unpack_from("<Q", data, 40) + struct.unpack_from("<HHH", data, 58)
     raw = [struct.unpack_from("<IIQQQQIIQQ", data, start + size * k) for k in range(count)]
     return [
-        Section(text(data, raw[names][4] + row[0]), row[1], row[2], row[3], row[4], row[5], row[6], row[7], row[8] or 1)
+        Section(text(data, raw[names][4] + row[0]), row[1], row[2], row[3], row[4], row[5], row[6], row[7], row[8] or 1, row[9])
         for row in raw
     ]
 
@@ -202,10 +203,11 @@ class Object:
 
 
 def file_of(rows, places, table):
-    """The object file of sections, of which the last one names all, at places of it; the symbol table has a number."""
+    """The object file of sections, of which the last one names all, at places of it; the symbol table has a number. A section's bytes
+    may be at any offset, so a large alignment leaves no large gap."""
     body, headers = bytearray(), bytearray(64)
     for place, (_, sh_type, flags, data, align, info, size) in zip(places, rows):
-        body += bytes(-len(body) % align)
+        body += bytes(-len(body) % min(align, 16))
         link = {SYMTAB: table + 1, RELA: table, GROUP: table}.get(sh_type, 0)
         entry_size = {SYMTAB: 24, RELA: 24, GROUP: 4}.get(sh_type, 0)
         length = len(data) if size is None else size

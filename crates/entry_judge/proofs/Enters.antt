@@ -12,7 +12,7 @@ use Rattle.judge_model.specs.RightForeign.{EntersRight}
 use Rattle.link_fields.specs.Parts.{Parts, parts_of, value_of}
 use Rattle.entry_judge.specs.Entries.{EntersAt, HasValue, IsAt, IsOutside}
 
-value_is : (l : ForeignLink) (m : Meaning) → means.value_of l m ≡ value_of (placed_of l) l.certificate.names m
+value_is : (l : ForeignLink) (m : Meaning) → means.value_of l m ≡ value_of (placed_of l) l.certificate.merged l.certificate.names m
 value_is l (Symbol s) = refl
 value_is l (Common b) = refl
 value_is l (Linker name bound) = refl
@@ -21,23 +21,23 @@ module _ (l : ForeignLink) (v : ℕ) where
   abbrev pub Right : Meaning → Type 0
   Right m = means.value_of l m ≡ Some v
 
-  meaning_in : (o : Option Meaning) → IsSomeAnd o (HasValue (placed_of l) l.certificate.names v) → IsSomeAnd o Right
+  meaning_in : (o : Option Meaning) → IsSomeAnd o (HasValue (placed_of l) l.certificate.merged l.certificate.names v) → IsSomeAnd o Right
   meaning_in None h = h
   meaning_in (Some m) h = value_is l m ∙ h.value
 
-  meaning_of : (o : Option Meaning) → IsSomeAnd o Right → IsSomeAnd o (HasValue (placed_of l) l.certificate.names v)
+  meaning_of : (o : Option Meaning) → IsSomeAnd o Right → IsSomeAnd o (HasValue (placed_of l) l.certificate.merged l.certificate.names v)
   meaning_of None h = h
   meaning_of (Some m) h = record { value = sym (value_is l m) ∙ h }
 
   at_in :
-      (os : List LoadedObject) (o : Option SymbolOf) → IsSomeAnd o (IsAt os (placed_of l) l.certificate.names v) →
+      (os : List LoadedObject) (o : Option SymbolOf) → IsSomeAnd o (IsAt os (placed_of l) l.certificate.merged l.certificate.names v) →
       IsSomeAnd (option_and_then (meant os) o) Right
   at_in os None h = h
   at_in os (Some s) h = meaning_in (meant os s) h.at
 
   at_of :
       (os : List LoadedObject) (o : Option SymbolOf) → IsSomeAnd (option_and_then (meant os) o) Right →
-      IsSomeAnd o (IsAt os (placed_of l) l.certificate.names v)
+      IsSomeAnd o (IsAt os (placed_of l) l.certificate.merged l.certificate.names v)
   at_of os None h = h
   at_of os (Some s) h = record { at = meaning_of (meant os s) h }
 

@@ -6,15 +6,16 @@ use Rattle.elf_model.specs.Link.Meaning.{Meaning, meant}
 use Rattle.elf_model.specs.Link.Placement.{Placed}
 use Rattle.elf_model.specs.Link.Resolution.{SymbolOf, chosen, is_in_thread_section}
 use Rattle.judge_model.specs.Certificates.{NameRow}
+use Rattle.judge_model.specs.declared.certificate.MergedLine.{MergedLine}
 use Rattle.link_fields.specs.Parts.{Parts, value_of}
 
 -- what objects define has a value
-pub record HasValue (placed : List Placed) (rows : List NameRow) (v : ℕ) (m : Meaning) : Type 0 where
-  pub value : value_of placed rows m ≡ Some v
+pub record HasValue (placed : List Placed) (merged : List MergedLine) (rows : List NameRow) (v : ℕ) (m : Meaning) : Type 0 where
+  pub value : value_of placed merged rows m ≡ Some v
 
 -- a chosen symbol means what has a value
-pub record IsAt (objects : List LoadedObject) (placed : List Placed) (rows : List NameRow) (v : ℕ) (s : SymbolOf) : Type 0 where
-  pub at : IsSomeAnd (meant objects s) (HasValue placed rows v)
+pub record IsAt (objects : List LoadedObject) (placed : List Placed) (merged : List MergedLine) (rows : List NameRow) (v : ℕ) (s : SymbolOf) : Type 0 where
+  pub at : IsSomeAnd (meant objects s) (HasValue placed merged rows v)
 
 -- and is in no thread-local section
 pub record IsOutside (objects : List LoadedObject) (s : SymbolOf) : Type 0 where
@@ -23,4 +24,4 @@ pub record IsOutside (objects : List LoadedObject) (s : SymbolOf) : Type 0 where
 -- the program is entered at the definition of a name
 pub record EntersAt (p : Parts) (name : List ℕ) : Type 0 where
   pub outside : IsSomeAnd (chosen p.objects name) (IsOutside p.objects)
-  pub at : IsSomeAnd (chosen p.objects name) (IsAt p.objects p.placed p.rows (file_header p.image).e_entry)
+  pub at : IsSomeAnd (chosen p.objects name) (IsAt p.objects p.placed p.merged p.rows (file_header p.image).e_entry)

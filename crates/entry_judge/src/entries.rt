@@ -13,12 +13,28 @@ ghost use Rattle.entry_judge.specs.Entries.{EntersAt, HasValue, IsAt, IsOutside}
 use check_link::{Block, Meaning, Names, SymbolOf, is_in_thread_section};
 use check_load::Loaded;
 use elf_model::SHN_ABS;
-use link_fields::{Addresses, LinkParts};
+use link_fields::{Addresses, LinkParts, MergedLines, merged_value};
 
-/// Whether a defined symbol has a value: an absolute one's `st_value`, else the address of its section plus `st_value`.
-fn has_value(addresses: &Addresses<'_, '_>, symbol: &SymbolOf<'_>, value: u64) -> bool
+/// Whether there is a value, and which.
+fn is_some(found: Option<u128>, value: u64) -> bool
+    ensures { IsTrue result ↔ (found ≡ Some value) }
+{
+    match found {
+        Some(found) => found == value as u128,
+        None => false,
+    }
+}
+
+/// Whether a defined symbol has a value: an absolute one's `st_value`, else the address of its section plus `st_value`, or of a
+/// section that was merged where its string or constant is.
+fn has_value(
+    addresses: &Addresses<'_, '_>,
+    merged: &MergedLines<'_>,
+    symbol: &SymbolOf<'_>,
+    value: u64,
+) -> bool
     ensures { IsTrue result
-        ↔ (words.symbol_value addresses.now (symbol_view symbol.now) ≡ Some value) }
+        ↔ (words.symbol_value addresses.now merged.now (symbol_view symbol.now) ≡ Some value) }
 {
     let entry = symbol.entry;
     if entry.st_shndx == SHN_ABS {
@@ -26,7 +42,7 @@ fn has_value(addresses: &Addresses<'_, '_>, symbol: &SymbolOf<'_>, value: u64) -
     }
     match addresses.address(symbol.object, entry.st_shndx as u64) {
         Some(at) => at <= value && entry.st_value == value - at,
-        None => false,
+        None => is_some(merged_value(merged, symbol), value),
     }
 }
 
@@ -45,14 +61,15 @@ fn is_block_at(addresses: &Addresses<'_, '_>, block: &Block<'_>, value: u64) -> 
 fn is_at<'a>(
     names: &Names<'_, 'a>,
     addresses: &Addresses<'_, '_>,
+    merged: &MergedLines<'_>,
     symbol: &SymbolOf<'a>,
     value: u64,
 ) -> bool
     ensures { (rows : List NameRow) → IsTrue result
-        ↔ IsAt names.now addresses.now rows value (symbol_view symbol.now) }
+        ↔ IsAt names.now addresses.now merged.now rows value (symbol_view symbol.now) }
 {
     match names.meant(symbol) {
-        Some(Meaning::Symbol(own)) => has_value(addresses, &own, value),
+        Some(Meaning::Symbol(own)) => has_value(addresses, merged, &own, value),
         Some(Meaning::Common(block)) => is_block_at(addresses, &block, value),
         Some(Meaning::Linker(_, _)) => false,
         None => false,
@@ -76,7 +93,13 @@ fn enters_at(parts: &LinkParts<'_, '_, '_>, name: &[u8]) -> bool
     if !is_outside(parts.names.objects(), &symbol) {
         return false;
     }
-    is_at(parts.names, parts.addresses, &symbol, parts.image.entry())
+    is_at(
+        parts.names,
+        parts.addresses,
+        parts.merged,
+        &symbol,
+        parts.image.entry(),
+    )
 }
 
 /// Whether the program of a link, given its parts, is entered at the definition of its entry's name: objects define it outside of

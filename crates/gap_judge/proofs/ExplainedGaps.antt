@@ -14,7 +14,7 @@ use Rattle.judge_model.specs.Fill.{IsExplained, IsGap, IsGapRight, IsSlotOf}
 use Rattle.judge_model.specs.Headers.{IsLoad, IsProgram}
 use Rattle.judge_model.specs.Links.{ForeignLink, relocations_of}
 use Rattle.judge_model.specs.Memory.{Holds}
-use Rattle.judge_model.specs.Placed.{things_of}
+use Rattle.judge_model.specs.Placed.{explained_things}
 use Rattle.memory_judge.specs.Spans.{AreSpansOf, IsInSpan, far}
 use Rattle.memory_judge.specs.declared.spans.Span.{Span}
 use Rattle.gap_judge.proofs.GapLaws.{AreLeft, of_gaps}
@@ -25,8 +25,8 @@ use Rattle.gap_judge.specs.Links.{AreGapsFilled, AreRunGaps}
 
 module _ (l : ForeignLink) (slots : List ℕ) (are : AreSlots l slots) where
   -- addresses that things and slots take up are those that are explained
-  taken_explained : (a : ℕ) → Any (λ (t : Thing). Covers t a) (things_of l ++ map slot_thing slots) → IsExplained l a
-  taken_explained a (i, t, low, is, c) = by (Contains-append_cases (things_of l) (map slot_thing slots) t (i, low, is))
+  taken_explained : (a : ℕ) → Any (λ (t : Thing). Covers t a) (explained_things l ++ map slot_thing slots) → IsExplained l a
+  taken_explained a (i, t, low, is, c) = by (Contains-append_cases (explained_things l) (map slot_thing slots) t (i, low, is))
     where
       of_slot : (at : ℕ) → Contains slots at → Covers (slot_thing at) a → Any (IsSlotOf l a) (relocations_of l)
       of_slot at there here = asked ((are.slots_are at).0 there)
@@ -34,22 +34,22 @@ module _ (l : ForeignLink) (slots : List ℕ) (are : AreSlots l slots) where
           asked : Any (λ (r : Relocation). HasSlotAt l r at) (relocations_of l) → Any (IsSlotOf l a) (relocations_of l)
           asked (j, r, below, same, has) = (j, r, below, same, (at, has, here))
 
-      by : Contains (things_of l) t ⊎ Contains (map slot_thing slots) t → IsExplained l a
-      by (inl there) = inl (Any-from_contains (λ (u : Thing). Covers u a) (things_of l) t there c)
+      by : Contains (explained_things l) t ⊎ Contains (map slot_thing slots) t → IsExplained l a
+      by (inl there) = inl (Any-from_contains (λ (u : Thing). Covers u a) (explained_things l) t there c)
       by (inr there) =
           let m = Contains-from_map slot_thing slots t there in
           inr (of_slot m.of m.there (subst (λ (u : Thing). Covers u a) (sym m.is) c))
 
-  explained_taken : (a : ℕ) → IsExplained l a → Any (λ (t : Thing). Covers t a) (things_of l ++ map slot_thing slots)
+  explained_taken : (a : ℕ) → IsExplained l a → Any (λ (t : Thing). Covers t a) (explained_things l ++ map slot_thing slots)
   explained_taken a (inl (i, t, low, is, c)) =
-      Any-from_contains (λ (u : Thing). Covers u a) (things_of l ++ map slot_thing slots) t
-      (Contains-append_left (things_of l) (map slot_thing slots) t (i, low, is)) c
+      Any-from_contains (λ (u : Thing). Covers u a) (explained_things l ++ map slot_thing slots) t
+      (Contains-append_left (explained_things l) (map slot_thing slots) t (i, low, is)) c
   explained_taken a (inr (i, r, low, is, (at, has, c))) =
-      Any-from_contains (λ (u : Thing). Covers u a) (things_of l ++ map slot_thing slots) (slot_thing at)
-      (Contains-append_right (things_of l) (map slot_thing slots) (slot_thing at)
+      Any-from_contains (λ (u : Thing). Covers u a) (explained_things l ++ map slot_thing slots) (slot_thing at)
+      (Contains-append_right (explained_things l) (map slot_thing slots) (slot_thing at)
       (Contains-map slot_thing slots at ((are.slots_are at).1 (Any-from_contains (λ (s : Relocation). HasSlotAt l s at) (relocations_of l) r (i, low, is) has)))) c
 
-  module _ (spans runs : List Span) (found : AreSpansOf (things_of l ++ map slot_thing slots) spans) (between : AreRunGaps l runs) where
+  module _ (spans runs : List Span) (found : AreSpansOf (explained_things l ++ map slot_thing slots) spans) (between : AreRunGaps l runs) where
     left : (h : ProgramHeader) → h.p_vaddr + h.p_memsz < far → AreLeft (IsExplained l) h.p_vaddr (h.p_vaddr + h.p_memsz) h.p_vaddr spans
     left h low = record {
       at = omega arith;

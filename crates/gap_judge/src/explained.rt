@@ -2,7 +2,7 @@
 ghost use Rattle.std.specs.Prelude.{◌≡◌, ◌↔◌, ◌++◌, ◌<◌, All, AllPairs, IfOk, IsTrue, map};
 ghost use Rattle.judge_model.specs.Fields as fields;
 ghost use Rattle.judge_model.specs.Links.{ForeignLink};
-ghost use Rattle.judge_model.specs.Placed.{things_of};
+ghost use Rattle.judge_model.specs.Placed.{explained_things};
 ghost use Rattle.memory_judge.specs.Spans.{IsSpanBefore};
 ghost use Rattle.link_fields.specs.Slots.{AreSlots};
 ghost use Rattle.gap_judge.specs.Links.{AreGapsFilled, AreRunGaps};
@@ -52,7 +52,7 @@ pub fn are_gaps_filled(
 ) -> Result<bool, AllocError>
     requires some { All (λ s. s.from < s.to) runs.now }
     requires rising { AllPairs IsSpanBefore runs.now }
-    ensures { (l : ForeignLink) → l.image ≡ image.now → things_of l ≡ things.now
+    ensures { (l : ForeignLink) → l.image ≡ image.now → explained_things l ≡ things.now
         → AreSlots l slots.now → AreRunGaps l runs.now
         → IfOk result (λ b. IsTrue b ↔ AreGapsFilled l) }
 {

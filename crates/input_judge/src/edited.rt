@@ -1,25 +1,38 @@
-//! Whether linkers edit a section: they merge strings and constants (SHF_MERGE), and read call frames and write them anew, unless
-//! a line says where such a section is as it came.
+//! Whether linkers edit a section in a way that isn't judged: they merge strings and constants (SHF_MERGE) that relocations change, or
+//! that aren't read-only data by their name, and read call frames and write them anew, unless a line says where such a section is as it
+//! came.
 ghost use Rattle.std.specs.Prelude.{◌≡◌, ◌↔◌, ◌&&◌, ◌||◌, ℕ, All, IfOk, IsTrue, false, map, not};
 ghost use Rattle.check_link.specs.Views.{piece_view, piece_views};
 ghost use Rattle.check_load.specs.Views.{loaded_views};
 ghost use Rattle.elf_model.specs.Image.MapRecord.{place_row};
-ghost use Rattle.input_judge.specs.Edited.{is_edited_by, may_merge};
+ghost use Rattle.input_judge.specs.Edited.{is_edited_by, is_unmergeable_by};
 ghost use Rattle.input_judge.specs.SectionSets.{has_section};
 ghost use Rattle.judge_model.specs.Links.{ForeignLink, is_frames, objects_of};
-ghost use Rattle.judge_model.specs.RightForeign.{is_edited};
+ghost use Rattle.judge_model.specs.RightForeign.{is_edited, is_of_constants};
 
 use crate::section_sets::SectionSet;
 use check_link::Piece;
 use check_load::Loaded;
-use elf_model::{PlaceLine, SHF_MERGE};
+use elf_model::PlaceLine;
+use header_judge::is_gathered;
+use link_fields::is_mergeable;
 use std::alloc::{AllocError, Global};
 
-/// Whether a section has entries of a size that may be merged.
-fn may_merge(piece: &Piece<'_>) -> bool
-    ensures { result ≡ may_merge (piece_view piece.now) }
+/// The names of read-only data.
+static CONSTANT_NAMES: [&[u8]; 2] = [b".rodata", b".lrodata"];
+
+/// Whether a section is one of read-only data, by its name.
+fn is_of_constants(piece: &Piece<'_>) -> bool
+    ensures { result ≡ is_of_constants (piece_view piece.now) }
 {
-    piece.header.sh_flags & SHF_MERGE != 0 && piece.header.sh_entsize != 0
+    is_gathered(piece.name, &CONSTANT_NAMES)
+}
+
+/// Whether linkers merge what a section has in a way that isn't judged, given the sections that relocations change.
+fn is_unmergeable(piece: &Piece<'_>, relocated: &SectionSet) -> bool
+    ensures { result ≡ is_unmergeable_by (has_section relocated.now) (piece_view piece.now) }
+{
+    is_mergeable(piece) && (relocated.has(piece.object, piece.section) || !is_of_constants(piece))
 }
 
 fn is_frames(piece: &Piece<'_>) -> bool
@@ -36,10 +49,7 @@ fn is_edited(piece: &Piece<'_>, placed: &SectionSet, relocated: &SectionSet) -> 
     if placed.has(piece.object, piece.section) {
         return false;
     }
-    if is_frames(piece) {
-        return true;
-    }
-    may_merge(piece) && !relocated.has(piece.object, piece.section)
+    is_unmergeable(piece, relocated) || is_frames(piece)
 }
 
 fn is_unedited(piece: &Piece<'_>, placed: &SectionSet, relocated: &SectionSet) -> bool
@@ -62,8 +72,9 @@ fn are_unedited_by(pieces: &[Piece<'_>], placed: &SectionSet, relocated: &Sectio
     true
 }
 
-/// Whether linkers edit none of some sections of objects, given the lines of sections: strings and constants that may be merged,
-/// and that no relocation changes, and call frames have lines, which say where they are as they came.
+/// Whether linkers edit none of some sections of objects in a way that isn't judged, given the lines of sections: strings and constants
+/// that may be merged, and that relocations change or whose section isn't one of read-only data by its name, and call frames have
+/// lines, which say where they are as they came.
 ///
 /// # Errors
 ///

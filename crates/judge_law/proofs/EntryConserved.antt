@@ -250,13 +250,14 @@ module _ (s : Subject) (order : AreInOrder s) (holds : (c : Clause) → right.Ho
     where
       by :
           (b : Bool) → is_absolute x.entry ≡ b
-          → cond b (Some x.entry.st_value) (option_map (λ a. a + x.entry.st_value) (foreign.address_of (foreign_of s) x.object x.entry.st_shndx))
+          → cond b (Some x.entry.st_value)
+          (option_or (option_map (λ a. a + x.entry.st_value) (foreign.address_of (foreign_of s) x.object x.entry.st_shndx)) None)
           ≡ Some (cond b x.entry.st_value (unwrap_or (option_map (λ (q : Placed). q.at + x.entry.st_value) (find (is_of_section x.object x.entry.st_shndx) (right.placed_of s))) 0))
       by true e = refl
       by false e =
-          ap (λ (qs : List Placed). option_map (λ a. a + x.entry.st_value) (option_map (λ (q : Placed). q.at) (find (is_of_section x.object x.entry.st_shndx) qs)))
+          ap (λ (qs : List Placed). option_or (option_map (λ a. a + x.entry.st_value) (option_map (λ (q : Placed). q.at) (find (is_of_section x.object x.entry.st_shndx) qs))) None)
           (placed_same s order holds)
-          ∙ found_value x.entry.st_value (find (is_of_section x.object x.entry.st_shndx) (right.placed_of s)) (found x c is e)
+          ∙ ap (λ (o : Option ℕ). option_or o None) (found_value x.entry.st_value (find (is_of_section x.object x.entry.st_shndx) (right.placed_of s)) (found x c is e))
 
   pub value_right : (name : List ℕ) (d : Meaning) → object_meaning os name ≡ Some d → foreign.value_of (foreign_of s) d ≡ Some (meaning_value (right.where_of s) d)
   value_right name d e = by (chosen os name) refl e

@@ -38,6 +38,8 @@ certificate_of s = record {
   places = s.map.places;
   commons = s.map.commons;
   notes = [];
+  areas = [];
+  merged = [];
   names = names_of s.map.symbols;
   got = option_map (λ g. g.address) s.map.got;
 }

@@ -1,8 +1,9 @@
-//! A certificate from a text: a line `note ADDRESS SIZE`, in decimal digits, for each note that the linker made, and behind these a
+//! A certificate from a text: a line `note ADDRESS SIZE` for each note that the linker made, `area ADDRESS SIZE` for each area of
+//! merged strings and constants, `merged OBJECT SECTION OFFSET SIZE ADDRESS` for each of these, all in decimal digits, and behind them a
 //! map (docs/MAP.md). Its lines say where the objects, sections, common blocks and the global offset table are, and those of symbols
 //! that the linker defines give the values of these names. A judge takes none of it on trust, so nothing is promised of it here.
 use elf_model::{Definition, LinkMap, MapFault, SymbolLine};
-use judge_model::{Certificate, NameLine, NoteLine};
+use judge_model::{Certificate, MergedLine, NameLine, StretchLine};
 use linkmap::read;
 use std::alloc::{AllocError, Global};
 
@@ -20,51 +21,113 @@ fn linkers_names(alloc: Global, symbols: Vec<SymbolLine>) -> Result<Vec<NameLine
     Ok(names)
 }
 
-/// What the lines of notes begin with.
-const NOTE: &[u8] = b"note ";
+/// The lines in front of a map: notes, areas of merged strings and constants, and where each of these is.
+#[derive(Debug, Drop)]
+struct Front {
+    notes: Vec<StretchLine>,
+    areas: Vec<StretchLine>,
+    merged: Vec<MergedLine>,
+}
 
-/// The note of a line.
-fn note_of(line: &str) -> Option<NoteLine> {
-    let (address, size) = line.strip_prefix("note ")?.split_once(' ')?;
-    Some(NoteLine {
-        address: address.parse::<u64>().ok()?,
+/// A line in front of a map.
+#[derive(Clone, Copy, Debug)]
+enum FrontLine {
+    Note(StretchLine),
+    Area(StretchLine),
+    Merged(MergedLine),
+}
+
+/// The number at the beginning of a line, and what stands behind the space that follows it.
+fn number_of(line: &str) -> Option<(u64, &str)> {
+    let (number, rest) = line.split_once(' ')?;
+    Some((number.parse::<u64>().ok()?, rest))
+}
+
+/// A stretch by its two numbers.
+fn stretch_of(line: &str) -> Option<StretchLine> {
+    let (address, size) = number_of(line)?;
+    Some(StretchLine {
+        address,
         size: size.parse::<u64>().ok()?,
     })
 }
 
-/// The note of the first line of a text, and the text behind it.
-fn first_note(text: &[u8]) -> Option<(NoteLine, &[u8])> {
+/// Where a string or a constant is, by its five numbers.
+fn merged_of(line: &str) -> Option<MergedLine> {
+    let (object, rest) = number_of(line)?;
+    let (section, rest) = number_of(rest)?;
+    let (offset, rest) = number_of(rest)?;
+    let (size, address) = number_of(rest)?;
+    Some(MergedLine {
+        object,
+        section,
+        offset,
+        size,
+        address: address.parse::<u64>().ok()?,
+    })
+}
+
+/// What a line in front of a map says.
+fn front_line_of(line: &str) -> Option<FrontLine> {
+    if let Some(note) = line.strip_prefix("note ") {
+        return Some(FrontLine::Note(stretch_of(note)?));
+    }
+    if let Some(area) = line.strip_prefix("area ") {
+        return Some(FrontLine::Area(stretch_of(area)?));
+    }
+    Some(FrontLine::Merged(merged_of(line.strip_prefix("merged ")?)?))
+}
+
+/// Whether a text begins with a line that stands in front of a map.
+fn has_front_line(text: &[u8]) -> bool {
+    text.starts_with(b"note ") || text.starts_with(b"area ") || text.starts_with(b"merged ")
+}
+
+/// What the first line of a text says, and the text behind it.
+fn first_line(text: &[u8]) -> Option<(FrontLine, &[u8])> {
     let end = text.iter().position(|b| *b == b'\n')?;
     let (line, behind) = text.split_at(end);
     let (_, rest) = behind.split_first()?;
-    Some((note_of(str::from_utf8(line).ok()?)?, rest))
+    Some((front_line_of(str::from_utf8(line).ok()?)?, rest))
 }
 
-/// The notes of the first lines of a text, and the text behind them.
-fn read_notes<'t>(alloc: Global, text: &'t [u8]) -> Result<(Vec<NoteLine>, &'t [u8]), MapFault> {
-    let mut notes = Vec::new(alloc);
-    let mut rest = text;
-    for _ in 0..text.len() {
-        if !rest.starts_with(NOTE) {
-            break;
+impl Front {
+    /// Adds what a line says.
+    fn add(&mut self, line: FrontLine) -> Result<(), AllocError> {
+        match line {
+            FrontLine::Note(note) => self.notes.push(note)?,
+            FrontLine::Area(area) => self.areas.push(area)?,
+            FrontLine::Merged(merged) => self.merged.push(merged)?,
         }
-        let Some((note, behind)) = first_note(rest) else {
-            return Err(MapFault::Line(notes.len() as u64 + 1));
+        Ok(())
+    }
+}
+
+/// The lines in front of a map, how many they are, and the text behind them.
+fn read_front<'t>(alloc: Global, text: &'t [u8]) -> Result<(Front, u64, &'t [u8]), MapFault> {
+    let mut front = Front {
+        notes: Vec::new(alloc),
+        areas: Vec::new(alloc),
+        merged: Vec::new(alloc),
+    };
+    let mut rest = text;
+    for count in 0..text.len() as u64 {
+        if !has_front_line(rest) {
+            return Ok((front, count, rest));
+        }
+        let Some((line, behind)) = first_line(rest) else {
+            return Err(MapFault::Line(count + 1));
         };
-        if notes.push(note).is_err() {
+        if front.add(line).is_err() {
             return Err(MapFault::Memory);
         }
         rest = behind;
     }
-    Ok((notes, rest))
+    Ok((front, text.len() as u64, rest))
 }
 
-/// The certificate of notes and a map.
-fn certificate_of(
-    alloc: Global,
-    notes: Vec<NoteLine>,
-    map: LinkMap,
-) -> Result<Certificate, AllocError> {
+/// The certificate of a map and the lines in front of it.
+fn certificate_of(alloc: Global, front: Front, map: LinkMap) -> Result<Certificate, AllocError> {
     let got = match map.got {
         Some(line) => Some(line.address),
         None => None,
@@ -74,17 +137,19 @@ fn certificate_of(
         drops: map.drops,
         places: map.places,
         commons: map.commons,
-        notes,
+        notes: front.notes,
+        areas: front.areas,
+        merged: front.merged,
         names: linkers_names(alloc, map.symbols)?,
         got,
     })
 }
 
 /// A map's fault as one of the text that has so many lines in front of it.
-fn behind_lines(fault: MapFault, count: usize) -> MapFault {
+fn behind_lines(fault: MapFault, count: u64) -> MapFault {
     match fault {
         MapFault::Memory => MapFault::Memory,
-        MapFault::Line(line) => MapFault::Line(line.saturating_add(count as u64)),
+        MapFault::Line(line) => MapFault::Line(line.saturating_add(count)),
     }
 }
 
@@ -94,12 +159,12 @@ fn behind_lines(fault: MapFault, count: usize) -> MapFault {
 ///
 /// Memory; or the first line, counted from 1, at which the text is no beginning of a certificate.
 pub fn read_certificate(alloc: Global, text: &[u8]) -> Result<Certificate, MapFault> {
-    let (notes, rest) = read_notes(alloc, text)?;
+    let (front, count, rest) = read_front(alloc, text)?;
     let map = match read(alloc, rest) {
         Ok(map) => map,
-        Err(fault) => return Err(behind_lines(fault, notes.len())),
+        Err(fault) => return Err(behind_lines(fault, count)),
     };
-    match certificate_of(alloc, notes, map) {
+    match certificate_of(alloc, front, map) {
         Ok(certificate) => Ok(certificate),
         Err(_) => Err(MapFault::Memory),
     }

@@ -1,4 +1,4 @@
--- F10. What memory has outside of headers, sections, common blocks, slots and notes: fill. Among the sections of .init and of
+-- F10. What memory has outside of headers, sections, common blocks, slots, notes, merged strings and constants: fill. Among the sections of .init and of
 -- .fini it is executed, so there it is whole instructions that do nothing. Elsewhere among code it is such instructions and
 -- breakpoints, and zeros behind them; and zeros where nothing is executed.
 use Rattle.std.specs.Prelude.{◌≡◌, ◌⊎◌, ℕ, zero, suc, ◌+◌, ◌-◌, ◌<◌, ◌≤◌, ◌==◌, Bool, true, false, cond, List, [], ◌∷◌, Option, None, Some, All, Any, Contains, bit_and, codes, drop, find, length, nat_eq, nat_le}
@@ -19,7 +19,7 @@ use Rattle.judge_model.specs.Fields.{HasSlotAt, slot_thing}
 use Rattle.elf_model.specs.Link.Meaning.{object_meaning}
 use Rattle.judge_model.specs.Links.{ForeignLink, objects_of, placed_of, relocations_of, sections_of}
 use Rattle.judge_model.specs.Memory.{Holds}
-use Rattle.judge_model.specs.Placed.{things_of}
+use Rattle.judge_model.specs.Placed.{explained_things}
 use Rattle.judge_model.specs.Runs.{IsBetween}
 
 -- Instructions that do nothing (AMD64 Architecture Programmer's Manual 3, "NOP"): 90, and 0f 1f with an operand, behind
@@ -84,12 +84,12 @@ IsCodeFill bytes = (n : ℕ) × IsCodeFillBy n bytes
 
 -- Gaps.
 
--- an address that is explained: by a thing, or by the slot that a field asks for
+-- an address whose byte is explained: by a thing, or by the slot that a field asks for
 abbrev pub IsSlotOf : ForeignLink → ℕ → Relocation → Type 0
 IsSlotOf l a r = (at : ℕ) × HasSlotAt l r at × Covers (slot_thing at) a
 
 abbrev pub IsExplained : ForeignLink → ℕ → Type 0
-IsExplained l a = Any (λ t. Covers t a) (things_of l) ⊎ Any (IsSlotOf l a) (relocations_of l)
+IsExplained l a = Any (λ t. Covers t a) (explained_things l) ⊎ Any (IsSlotOf l a) (relocations_of l)
 
 -- the addresses of a segment between what is explained, as far as they go
 pub record IsGap (l : ForeignLink) (h : ProgramHeader) (from to : ℕ) : Type 0 where

@@ -7,6 +7,7 @@ pub mod Links
 pub mod Loaded
 pub mod Means
 pub mod Memory
+pub mod Merged
 pub mod Names
 pub mod Notes
 pub mod Placed

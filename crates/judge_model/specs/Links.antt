@@ -6,10 +6,11 @@ use Rattle.elf_model.specs.Image.MapRecord.{CommonRow}
 use Rattle.elf_model.specs.Inputs.Files.{File}
 use Rattle.elf_model.specs.Link.Commons.{Block, blocks}
 use Rattle.elf_model.specs.Link.Loading.{LoadedObject}
-use Rattle.elf_model.specs.Link.Pieces.{Piece, has_flag, is_of_output, kept_sections}
+use Rattle.elf_model.specs.Link.Pieces.{Piece, has_flag, is_executable, is_nobits, is_of_output, is_thread_local, is_writable, kept_sections}
 use Rattle.elf_model.specs.Link.Placement.{Placed, is_common_row_of, placed_blocks, placed_by}
 use Rattle.elf_model.specs.Link.Relocation.{Relocation, relocations}
 use Rattle.elf_model.specs.declared.constants.TheConstants.{SHF_MERGE}
+use Rattle.elf_model.specs.declared.records.SectionHeader.{SectionHeader}
 use Rattle.judge_model.specs.Certificates.{CertificateRecord, has_place, is_left_out}
 use Rattle.judge_model.specs.Loaded.{objects_in_order}
 use Rattle.judge_model.specs.Plans.{ForeignPlan}
@@ -39,13 +40,16 @@ is_in_image_too l r = not (is_left_out l.certificate.drops r.object r.section)
 abbrev pub relocations_of : ForeignLink → List Relocation
 relocations_of l = filter (is_in_image_too l) (relocations (objects_of l))
 
--- Sections that linkers edit: strings and constants that may be merged, call frames, property notes. All others are plain,
--- and so are those that have a place line, which a link that is judged gives the first two kinds alone.
+-- Sections that linkers edit: read-only strings and constants that may be merged, call frames, property notes. All others are
+-- plain, and so are those that have a place line, which a link that is judged gives the first two kinds alone.
 abbrev pub is_relocated : ForeignLink → Piece → Bool
 is_relocated l p = list_any (λ r. r.object == p.object && r.section == p.section) (relocations (objects_of l))
 
-abbrev pub is_mergeable : ForeignLink → Piece → Bool
-is_mergeable l p = (has_flag SHF_MERGE p.header && not (p.header.sh_entsize == 0)) && not (is_relocated l p)
+abbrev pub is_read_only : SectionHeader → Bool
+is_read_only h = not (is_nobits h || (is_writable h || (is_executable h || is_thread_local h)))
+
+abbrev pub is_mergeable : Piece → Bool
+is_mergeable p = has_flag SHF_MERGE p.header && (not (p.header.sh_entsize == 0) && is_read_only p.header)
 
 abbrev pub is_frames : Piece → Bool
 is_frames p = bytes_eq p.name (codes ".eh_frame")
@@ -57,10 +61,17 @@ abbrev pub is_placed : ForeignLink → Piece → Bool
 is_placed l p = has_place l.certificate.places p.object p.section
 
 abbrev pub is_plain : ForeignLink → Piece → Bool
-is_plain l p = is_placed l p || not (is_mergeable l p || (is_frames p || is_property p))
+is_plain l p = is_placed l p || not (is_mergeable p || (is_frames p || is_property p))
 
 abbrev pub plain_pieces : ForeignLink → List Piece
 plain_pieces l = filter (is_plain l) (pieces_of l)
+
+-- those of which the linker merged what they have
+abbrev pub is_merged : ForeignLink → Piece → Bool
+is_merged l p = is_mergeable p && not (is_placed l p)
+
+abbrev pub merged_of : ForeignLink → List Piece
+merged_of l = filter (is_merged l) (pieces_of l)
 
 -- the plain sections at the addresses of their lines, the common blocks that have a line at theirs, and both
 abbrev pub sections_of : ForeignLink → List Placed

@@ -1,10 +1,9 @@
 -- The names that a linker or its script defines where no object does, and which values they may have (ld(1) and the default
 -- scripts of GNU ld). A certificate gives each its one value; here is what a value has to be.
-use Rattle.std.specs.Prelude.{◌≡◌, ◌⊎◌, ℕ, ◌+◌, ◌-◌, ◌*◌, ◌/◌, ◌<◌, ◌≤◌, ◌&&◌, Bool, not, true, cond, List, [], ◌∷◌, Option, None, Some, All, AllPairs, Any, IfSome, bit_and, codes, nat_lt, unwrap_or}
+use Rattle.std.specs.Prelude.{◌≡◌, ◌⊎◌, ℕ, ◌+◌, ◌-◌, ◌*◌, ◌/◌, ◌<◌, ◌≤◌, ◌&&◌, Bool, not, true, cond, List, [], ◌∷◌, ◌++◌, Option, None, Some, All, AllPairs, Any, IfSome, bit_and, codes, nat_lt, unwrap_or}
 use Rattle.std.specs.Option.{option_or}
-use Rattle.std.specs.Str.{bytes_eq}
 use Rattle.elf_model.specs.Image.MemoryImage.{Encloses, first_address, loads}
-use Rattle.elf_model.specs.Link.LinkerNames.{BoundName, bound_name, fixed_bound, is_start_name, is_stop_name, named_output, output_bound}
+use Rattle.elf_model.specs.Link.LinkerNames.{fixed_bound, named_output, output_bound}
 use Rattle.elf_model.specs.Link.LinkerValues.{end_of_pieces, is_code_piece, is_file_data, is_loaded_piece, is_zero_data, start_of_pieces}
 use Rattle.elf_model.specs.Link.Pieces.{Piece, has_flag, is_of_output, same_output}
 use Rattle.elf_model.specs.Link.Placement.{Covers}
@@ -89,10 +88,10 @@ abbrev pub IsZeroStart : ForeignLink → ℕ → Option ℕ → Type 0
 IsZeroStart l v None = IsStartOfNoZeros l v
 IsZeroStart l v (Some start) = (v ≡ start) ⊎ IsAhead l start v
 
--- the end of all: of every section, block and note (slots are judged with the fill), and not far behind the last segment
+-- the end of all: of every section, block, note and area (slots are judged with the fill), and not far behind the last segment
 pub record IsImageEnd (l : ForeignLink) (v : ℕ) : Type 0 where
   pub behind : end_of_pieces is_loaded_piece (placed_of l) ≤ v
-  pub notes : All (λ n. n.address + n.size ≤ v) l.certificate.notes
+  pub filled : All (λ n. n.address + n.size ≤ v) (l.certificate.notes ++ l.certificate.areas)
   pub near : v ≤ address_limit (loads l.image)
 
 abbrev pub start_of_output : ForeignLink → List ℕ → Option ℕ

@@ -12,7 +12,7 @@ use Rattle.elf_model.specs.declared.records.ProgramHeader.{ProgramHeader}
 use Rattle.elf_model.specs.declared.records.SectionHeader.{SectionHeader}
 use Rattle.judge_model.specs.Links.{ForeignLink, objects_of}
 use Rattle.judge_model.specs.Memory.{Holds}
-use Rattle.judge_model.specs.declared.certificate.NoteLine.{NoteLine}
+use Rattle.judge_model.specs.declared.certificate.StretchLine.{StretchLine}
 
 -- a note of GNU of a type: the sizes of its name and its description, the type, the name, the description
 abbrev pub note_bytes : ℕ → List ℕ → List ℕ
@@ -22,7 +22,7 @@ note_bytes type description = le_bytes 4 4 ++ (le_bytes 4 (length description) +
 abbrev pub nt_gnu_build_id : ℕ
 nt_gnu_build_id = 3
 
-pub record IsBuildId (image : List ℕ) (n : NoteLine) : Type 0 where
+pub record IsBuildId (image : List ℕ) (n : StretchLine) : Type 0 where
   pub description : List ℕ
   pub short : length description ≤ 64
   pub size : n.size ≡ 16 + length description
@@ -65,7 +65,7 @@ common_bits objects = fold (λ bits o. bit_and bits (bits_of_object o)) 0xffffff
 abbrev pub allowed_bits : ForeignLink → ℕ
 allowed_bits l = bit_or (common_bits (objects_of l)) l.plan.features
 
-pub record IsPropertyNote (l : ForeignLink) (n : NoteLine) : Type 0 where
+pub record IsPropertyNote (l : ForeignLink) (n : StretchLine) : Type 0 where
   pub bits : ℕ
   pub allowed : bit_and bits (allowed_bits l) ≡ bits
   pub size : n.size ≡ 32
@@ -75,11 +75,11 @@ pub record IsPropertyNote (l : ForeignLink) (n : NoteLine) : Type 0 where
 abbrev pub is_note_header : ProgramHeader → Bool
 is_note_header h = h.p_type == 4 || h.p_type == 0x6474e553
 
-abbrev pub LiesInNotes : List ℕ → NoteLine → Type 0
+abbrev pub LiesInNotes : List ℕ → StretchLine → Type 0
 LiesInNotes image n =
     Any (λ h. (is_note_header h ≡ true) × ((h.p_vaddr ≤ n.address) × (n.address + n.size ≤ h.p_vaddr + h.p_memsz))) (program_headers image)
 
-pub record IsNoteRight (l : ForeignLink) (n : NoteLine) : Type 0 where
+pub record IsNoteRight (l : ForeignLink) (n : StretchLine) : Type 0 where
   pub aligned : n.address % 4 ≡ 0
   pub inside : LiesInNotes l.image n
   pub kind : IsBuildId l.image n ⊎ IsPropertyNote l n

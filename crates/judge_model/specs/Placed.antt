@@ -16,7 +16,8 @@ use Rattle.judge_model.specs.Links.{ForeignLink, objects_of, pieces_of, placed_o
 use Rattle.judge_model.specs.Memory.{IsInReach}
 use Rattle.judge_model.specs.Plans.{Start}
 use Rattle.judge_model.specs.Runs.{AreNeighbours, IsBetween, same_name}
-use Rattle.judge_model.specs.declared.certificate.NoteLine.{NoteLine}
+use Rattle.judge_model.specs.declared.certificate.MergedLine.{MergedLine}
+use Rattle.judge_model.specs.declared.certificate.StretchLine.{StretchLine}
 
 -- What takes up memory.
 
@@ -30,21 +31,30 @@ part_in offset size h = record { at = h.p_vaddr + (offset - h.p_offset); size = 
 abbrev pub mapped_parts : List ProgramHeader → ℕ → ℕ → List Thing
 mapped_parts hs offset size = map (part_in offset size) (filter (has_part offset size) hs)
 
--- the file header and the program headers, where segments have them; a note that the linker made
+-- the file header and the program headers, where segments have them; what the linker filled
 abbrev pub header_things : List ℕ → List Thing
 header_things image =
     mapped_parts (loads image) 0 64
     ++ mapped_parts (loads image) (file_header image).e_phoff (56 * (file_header image).e_phnum)
 
-abbrev pub note_thing : NoteLine → Thing
-note_thing n = record { at = n.address; size = n.size; align = 4; rights = 4; in_file = true }
+abbrev pub stretch_thing : StretchLine → Thing
+stretch_thing n = record { at = n.address; size = n.size; align = 4; rights = 4; in_file = true }
 
 abbrev pub made_things : ForeignLink → List Thing
-made_things l = header_things l.image ++ map note_thing l.certificate.notes
+made_things l = header_things l.image ++ map stretch_thing (l.certificate.notes ++ l.certificate.areas)
 
--- all of it: headers, notes, sections and common blocks
+-- all of it: headers, notes, areas of merged strings and constants, sections and common blocks
 abbrev pub things_of : ForeignLink → List Thing
 things_of l = made_things l ++ map thing_of (placed_of l)
+
+abbrev pub stretch_of : MergedLine → StretchLine
+stretch_of m = record { address = m.address; size = m.size }
+
+-- what its bytes are of: the same, but of an area the strings and constants in it
+abbrev pub explained_things : ForeignLink → List Thing
+explained_things l =
+    (header_things l.image ++ map stretch_thing (l.certificate.notes ++ map stretch_of l.certificate.merged))
+    ++ map thing_of (placed_of l)
 
 -- Each plain section has the line that tells its size and name, in order. Each common block has the line of its name, but
 -- that --gc-sections may leave one out.

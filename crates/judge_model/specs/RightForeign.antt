@@ -1,6 +1,6 @@
 -- What a right link of another linker is: thirteen requirements on the words, the files, the image and a certificate. None
 -- of them says how a linker lays anything out.
-use Rattle.std.specs.Prelude.{List, ℕ, ◌≡◌, ◌%◌, ◌&&◌, ◌||◌, Bool, true, false, not, Some, All, AllPairs, IsSomeAnd, codes, nat_eq}
+use Rattle.std.specs.Prelude.{List, [], ◌∷◌, ℕ, ◌≡◌, ◌%◌, ◌&&◌, ◌||◌, Bool, true, false, not, Some, All, AllPairs, IsSomeAnd, codes, nat_eq}
 use Rattle.elf_model.specs.Image.MemoryImage.{program_headers}
 use Rattle.elf_model.specs.Inputs.Files.{File}
 use Rattle.elf_model.specs.Inputs.Records.{file_header}
@@ -12,7 +12,8 @@ use Rattle.judge_model.specs.Fields.{AreFieldsApart, HoldsRest, IsFieldRight, Is
 use Rattle.judge_model.specs.Fill.{IsFilled}
 use Rattle.judge_model.specs.Headers.{AreHeadersRight, pt_gnu_eh_frame}
 use Rattle.judge_model.specs.Kept.{IsKept}
-use Rattle.judge_model.specs.Links.{ForeignLink, is_frames, is_mergeable, is_placed, is_property, objects_of, pieces_of, placed_of, relocations_of}
+use Rattle.judge_model.specs.Links.{ForeignLink, is_frames, is_mergeable, is_placed, is_property, is_relocated, objects_of, pieces_of, placed_of, relocations_of}
+use Rattle.judge_model.specs.Merged.{AreMergedRight}
 use Rattle.judge_model.specs.Loaded.{AreReadable}
 use Rattle.judge_model.specs.Loaded as loaded
 use Rattle.std.specs.List.{list_any, starts_with}
@@ -43,7 +44,7 @@ abbrev pub Holds : Requirement → ForeignLink → Type 0
 Holds F1 l = loaded.IsLoaded l.files l.plan.plan l.certificate.objects
 Holds F2 l = IsKept l
 Holds F3 l = placed.IsPlaced l
-Holds F4 l = AreNamesRight l
+Holds F4 l = AreNamesRight l × AreMergedRight l
 Holds F5 l = All (IsFieldRight l) (relocations_of l)
 Holds F6 l = Unit {0}
 Holds F7 l = All (HoldsRest l) (placed_of l)
@@ -54,14 +55,19 @@ Holds F11 l = EntersRight l
 Holds F12 l = AreHeadersRight l
 Holds F13 l = HasTables l.image → AreTablesRight l
 
--- What isn't judged: links whose inputs leave open what is right. Files, archives and objects that can't be read, as those of
--- other machines or with IFUNC symbols; objects for link-time optimization; two strong definitions of a name, unless the words ask
--- for the first; a common symbol that isn't sound; fields that leave their section, and places that overlap; instructions that
--- linkers may rewrite with a symbol inside; arrays of functions that gaps would break; names for where an output name begins and
--- ends whose sections are not of one run; a line for a property note, which linkers join; and, until they are judged too, strings
--- and constants that may be merged, and call frames, without a line that says where they are unedited, and a table of frames.
+-- Sections that linkers edit, in a way that isn't judged: strings and constants that may be merged, but that relocations change or
+-- whose section isn't one of read-only data by its name; and call frames. A line that says where one is unedited has it judged.
+abbrev pub constant_names : List (List ℕ)
+constant_names = codes ".rodata" ∷ codes ".lrodata" ∷ []
+
+abbrev pub is_of_constants : Piece → Bool
+is_of_constants p = list_any (is_gathered_by p.name) constant_names
+
+abbrev pub is_unmergeable : ForeignLink → Piece → Bool
+is_unmergeable l p = is_mergeable p && (is_relocated l p || not (is_of_constants p))
+
 abbrev pub is_edited : ForeignLink → Piece → Bool
-is_edited l p = not (is_placed l p) && (is_mergeable l p || is_frames p)
+is_edited l p = not (is_placed l p) && (is_unmergeable l p || is_frames p)
 
 abbrev pub is_of_array : Piece → Bool
 is_of_array p = list_any (is_gathered_by p.name) array_names
@@ -79,6 +85,13 @@ IsJoined l p = is_property p ≡ true → is_placed l p ≡ false
 abbrev pub IsNoFrameTable : ProgramHeader → Type 0
 IsNoFrameTable h = ¬ (h.p_type ≡ pt_gnu_eh_frame)
 
+-- What isn't judged: links whose inputs leave open what is right. Files, archives and objects that can't be read, as those of
+-- other machines or with IFUNC symbols; objects for link-time optimization; two strong definitions of a name, unless the words ask
+-- for the first; a common symbol that isn't sound; fields that leave their section, and places that overlap; instructions that
+-- linkers may rewrite with a symbol inside; arrays of functions that gaps would break; names for where an output name begins and
+-- ends whose sections are not of one run; a line for a property note, which linkers join; and, until they are judged too, strings
+-- and constants that may be merged whose section relocations change, or isn't one of read-only data by its name, and call frames,
+-- without a line that says where they are unedited, and a table of frames.
 pub record IsJudged (l : ForeignLink) : Type 0 where
   pub compiled : All (λ o. is_lto o ≡ false) (objects_of l)
   pub readable : AreReadable l.files l.plan.plan

@@ -1,13 +1,13 @@
 -- F9. The block of thread-local storage: PT_TLS says where it is, and from this header come the offsets from the thread
 -- pointer (System V gABI 5, "Program Header", PT_TLS; ELF Handling For Thread-Local Storage, variant II).
-use Rattle.std.specs.Prelude.{◌≡◌, ◌⊎◌, ℕ, ℤ, pos, ◌-ℤ◌, ◌+◌, ◌%◌, ◌^◌, ◌<◌, ◌≤◌, ◌&&◌, Bool, true, List, Option, Some, All, Any, filter, map, max, nat_lt}
+use Rattle.std.specs.Prelude.{◌≡◌, ◌⊎◌, ℕ, ℤ, pos, ◌-ℤ◌, ◌+◌, ◌%◌, ◌^◌, ◌≤◌, ◌&&◌, Bool, true, List, Option, Some, All, Any, map, max, nat_lt}
 use Rattle.std.specs.Int.{is_power_of_two}
 use Rattle.std.specs.List.{slice_get}
 use Rattle.std.specs.Option.{option_map_or}
 use Rattle.elf_model.specs.Image.MemoryImage.{Encloses, loads, thread_blocks}
 use Rattle.elf_model.specs.Link.LinkerValues.{end_of_pieces, start_of_pieces}
 use Rattle.elf_model.specs.Link.Pieces.{Piece, is_thread_piece, is_thread_zero}
-use Rattle.elf_model.specs.Link.Placement.{Placed, is_thread_place, round_up}
+use Rattle.elf_model.specs.Link.Placement.{Placed, round_up}
 use Rattle.elf_model.specs.Link.ThreadStorage.{alignment_of, is_some_thread_data, is_thread_data}
 use Rattle.elf_model.specs.declared.records.ProgramHeader.{ProgramHeader}
 

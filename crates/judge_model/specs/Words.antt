@@ -1,10 +1,10 @@
 -- The words of another linker's command (ld(1), and what compilers hand on), by one closed table: a word that has no row, or a
 -- value that its row doesn't take, makes the command one that isn't judged. Those of the profile say what they say there.
-use Rattle.std.specs.Prelude.{◌≡◌, ℕ, ◌+◌, ◌==◌, ◌&&◌, ◌||◌, Bool, true, false, not, cond, List, [], ◌∷◌, ◌++◌, Option, None, Some, bit_or, codes, drop, find, fold, is_some, length, map, nat_eq, option_map, take, unwrap_or}
+use Rattle.std.specs.Prelude.{◌≡◌, ℕ, ◌+◌, ◌==◌, ◌||◌, Bool, true, false, cond, List, [], ◌∷◌, Option, None, Some, bit_or, codes, drop, fold, length, nat_eq, option_map, take, unwrap_or}
 use Rattle.std.specs.List.{filter_map, last_or, list_any, position_or_len, starts_with}
-use Rattle.std.specs.Option.{option_and_then, option_map_or, option_or}
+use Rattle.std.specs.Option.{option_and_then, option_or}
 use Rattle.std.specs.Str.{bytes_eq}
-use Rattle.elf_model.specs.Inputs.Command.{AllFollow, Directory, Entry, GroupEnd, GroupStart, Input, Library, MapFile, NoEffect, Output, Path, Phrase, Plan, Source, Strip, Undefined, WholeEnd, WholeStart, address_of, after, is_empty, is_open, number_of, plan_of_phrases}
+use Rattle.elf_model.specs.Inputs.Command.{AllFollow, Directory, Entry, GroupEnd, GroupStart, Input, Library, Output, Path, Phrase, Strip, Undefined, WholeEnd, WholeStart, address_of, after, is_empty, is_open, number_of, plan_of_phrases}
 use Rattle.judge_model.specs.Plans.{ForeignPlan, Start}
 
 -- what a word says, with its value: a phrase of the profile's; --gc-sections or its no; that the first of two definitions

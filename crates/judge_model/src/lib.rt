@@ -7,6 +7,6 @@ mod certificate;
 mod judgement;
 mod rewriting;
 
-pub use certificate::{Certificate, NameLine, NoteLine};
+pub use certificate::{Certificate, MergedLine, NameLine, StretchLine};
 pub use judgement::{Judgement, Requirement};
 pub use rewriting::Rewriting;

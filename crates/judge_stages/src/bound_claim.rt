@@ -5,7 +5,7 @@ ghost use Rattle.link_fields.specs.Parts.{parts_of};
 
 use crate::placed_claim::PlacedClaim;
 use check_link::Outputs;
-use link_fields::{Addresses, LinkParts};
+use link_fields::{Addresses, LinkParts, MergedLines};
 use std::marker::Model;
 
 /// A placed link with its parts, by which names have their values.
@@ -28,14 +28,17 @@ impl<'l, 'o, 'a> Model for BoundClaim<'l, 'o, 'a> {
 }
 
 impl<'l, 'o, 'a> BoundClaim<'l, 'o, 'a> {
-    /// A placed link, with the output names of its sections, and its sections and common blocks found by their numbers.
+    /// A placed link, with the output names of its sections, its sections and common blocks found by their numbers, and the lines of
+    /// merged strings and constants.
     pub fn new(
         placed: &'l PlacedClaim<'o, 'a>,
         outputs: &'l Outputs<'l, 'a>,
         addresses: &'l Addresses<'l, 'a>,
+        merged: &'l MergedLines<'l>,
     ) -> BoundClaim<'l, 'o, 'a>
         requires outputs { outputs.now ≡ pieces_of placed.now }
         requires addresses { addresses.now ≡ placed_of placed.now }
+        requires merged { merged.now ≡ placed.now.certificate.merged }
         ensures { result ≡ placed.entry.now }
     {
         let claim = placed.claim();
@@ -44,6 +47,7 @@ impl<'l, 'o, 'a> BoundClaim<'l, 'o, 'a> {
             names: placed.names(),
             outputs,
             addresses,
+            merged,
             rows: &claim.certificate.names,
             got: claim.certificate.got,
         };

@@ -12,9 +12,11 @@ mod lines;
 mod loaded_claim;
 mod pieces;
 mod placed_claim;
+mod stretches;
 
 pub use bound_claim::BoundClaim;
 pub use claim::Claim;
 pub use lines::borrowed_commons;
-pub use loaded_claim::{LoadedClaim, plain_pieces};
+pub use loaded_claim::{LoadedClaim, merged_pieces, plain_pieces};
 pub use placed_claim::PlacedClaim;
+pub use stretches::{merged_stretches, stretches_of};

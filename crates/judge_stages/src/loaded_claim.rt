@@ -5,13 +5,13 @@ ghost use Rattle.check_load.specs.Numbered.{AreNumbered};
 ghost use Rattle.check_load.specs.Views.{loaded_views};
 ghost use Rattle.elf_model.specs.Link.Pieces.{kept_sections};
 ghost use Rattle.judge_model.specs.Certificates.{IsInOrder};
-ghost use Rattle.judge_model.specs.Links.{objects_of, pieces_of, plain_pieces};
+ghost use Rattle.judge_model.specs.Links.{merged_of, objects_of, pieces_of, plain_pieces};
 ghost use Rattle.judge_model.specs.RightForeign.{is_edited};
 ghost use Rattle.judge_stages.specs.Stages.{is_there};
 
 use crate::claim::Claim;
 use crate::keys::keys_of;
-use crate::pieces::{plain_among, those_there};
+use crate::pieces::{merged_among, plain_among, those_there};
 use check_link::{Names, Piece, pieces_of};
 use check_load::{Loaded, NameTable};
 use link_fields::Drops;
@@ -125,4 +125,21 @@ pub fn plain_pieces<'a>(
     let claim = loaded.claim();
     let keys = keys_of(alloc, &claim.certificate.places)?;
     plain_among(alloc, loaded.pieces(), &Drops::new(&keys))
+}
+
+/// The sections of a link that its linker merged.
+///
+/// # Errors
+///
+/// Only where memory is refused.
+pub fn merged_pieces<'a>(
+    alloc: Global,
+    loaded: &LoadedClaim<'_, 'a>,
+) -> Result<Vec<Piece<'a>>, AllocError>
+    requires { IsInOrder loaded.now.certificate }
+    ensures { IfOk result (λ v. piece_views v.items ≡ merged_of loaded.now) }
+{
+    let claim = loaded.claim();
+    let keys = keys_of(alloc, &claim.certificate.places)?;
+    merged_among(alloc, loaded.pieces(), &Drops::new(&keys))
 }

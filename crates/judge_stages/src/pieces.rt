@@ -1,11 +1,11 @@
-//! The sections that the image has, and those among them that linkers don't edit.
+//! The sections that the image has, those among them that linkers don't edit, and those that they merge.
 ghost use Rattle.std.specs.Prelude.{◌≡◌, IfOk, filter};
 ghost use Rattle.check_link.specs.Views.{piece_view, piece_views};
 ghost use Rattle.judge_model.specs.Links.{is_property};
-ghost use Rattle.judge_stages.specs.Stages.{is_plain_by, is_there};
+ghost use Rattle.judge_stages.specs.Stages.{is_merged_by, is_plain_by, is_there};
 
 use check_link::Piece;
-use link_fields::Drops;
+use link_fields::{Drops, is_mergeable};
 use std::alloc::{AllocError, Global};
 
 /// Whether a section has the notes of properties, which linkers join.
@@ -40,14 +40,15 @@ pub fn those_there<'a>(
     Ok(there)
 }
 
-/// Whether a section has a place line, given those that have one, or isn't one of notes of properties.
+/// Whether a section has a place line, given those that have one, or is neither one that linkers merge nor one of notes of
+/// properties.
 fn is_plain(piece: &Piece<'_>, keys: &Drops<'_>) -> bool
     ensures { result ≡ is_plain_by keys.now (piece_view piece.now) }
 {
-    keys.has(piece.object, piece.section) || !is_property(piece)
+    keys.has(piece.object, piece.section) || !(is_mergeable(piece) || is_property(piece))
 }
 
-/// The sections that have a place line, given those that have one, or aren't of notes of properties.
+/// The sections that have a place line, given those that have one, or that linkers don't edit.
 pub fn plain_among<'a>(
     alloc: Global,
     pieces: &[Piece<'a>],
@@ -63,4 +64,29 @@ pub fn plain_among<'a>(
         }
     }
     Ok(plain)
+}
+
+/// Whether linkers merge what a section has, which has no place line, given those that have one.
+fn is_merged(piece: &Piece<'_>, keys: &Drops<'_>) -> bool
+    ensures { result ≡ is_merged_by keys.now (piece_view piece.now) }
+{
+    is_mergeable(piece) && !keys.has(piece.object, piece.section)
+}
+
+/// The sections that linkers merged, given those that have a place line.
+pub fn merged_among<'a>(
+    alloc: Global,
+    pieces: &[Piece<'a>],
+    keys: &Drops<'_>,
+) -> Result<Vec<Piece<'a>>, AllocError>
+    ensures { IfOk result (λ v. piece_views v.items
+        ≡ filter (is_merged_by keys.now) (piece_views pieces.now)) }
+{
+    let mut merged = Vec::new(alloc);
+    for piece in pieces {
+        if is_merged(piece, keys) {
+            merged.push(*piece)?;
+        }
+    }
+    Ok(merged)
 }

@@ -1,5 +1,5 @@
 //! A link that is judged whose sections and common blocks are at the addresses of its certificate.
-ghost use Rattle.std.specs.Prelude.{◌≡◌, ◌≤◌, IfOk, length, take};
+ghost use Rattle.std.specs.Prelude.{◌≡◌, ◌≤◌, ◌++◌, IfOk, length, take};
 ghost use Rattle.check_link.specs.Views.{piece_views, placed_views};
 ghost use Rattle.judge_model.specs.Links.{objects_of, pieces_of, placed_of, plain_pieces, sections_of};
 ghost use Rattle.judge_model.specs.Placed.{things_of};
@@ -8,16 +8,18 @@ use crate::claim::Claim;
 use crate::commons::lined_blocks;
 use crate::lines::borrowed_places;
 use crate::loaded_claim::LoadedClaim;
+use crate::stretches::stretches_of;
 use check_link::{CommonLines, Names, Piece, Placed, place_all};
 use elf_model::Thing;
 use foreign_image::ForeignImage;
+use judge_model::StretchLine;
 use link_fields::Drops;
 use place_judge::things_of;
 use std::alloc::{AllocError, Global};
 use std::marker::Model;
 
 /// A link with its image, the sections that its linker didn't edit, and these and its common blocks at their addresses, beside
-/// all that takes up memory.
+/// what the linker filled, notes and areas of merged strings and constants, and all that takes up memory.
 #[derive(Drop)]
 pub struct PlacedClaim<'o, 'a> {
     loaded: &'o LoadedClaim<'o, 'a>,
@@ -25,6 +27,7 @@ pub struct PlacedClaim<'o, 'a> {
     plain: Vec<Piece<'a>>,
     placed: Vec<Placed<'a>>,
     section_count: usize,
+    filled: Vec<StretchLine>,
     things: Vec<Thing>,
 }
 
@@ -37,7 +40,8 @@ impl<'o, 'a> Model for PlacedClaim<'o, 'a> {
 
     ghost view = { λ c. c.loaded.now };
 
-    ghost invariant = { λ c. IsPlacedClaim c.loaded.now c.image (piece_views c.plain.items) c.placed.items c.section_count c.things.items };
+    ghost invariant = { λ c. IsPlacedClaim c.loaded.now c.image (piece_views c.plain.items) c.placed.items
+        c.section_count c.filled.items c.things.items };
 }
 
 /// The sections and behind them the common blocks that have a line, at their addresses; and how many are sections.
@@ -79,14 +83,16 @@ impl<'o, 'a> PlacedClaim<'o, 'a> {
         ensures { IfOk result (λ c. c ≡ loaded.entry.now) }
     {
         let (placed, section_count) = place_parts(alloc, loaded, &plain, lines)?;
-        let notes = &loaded.claim().certificate.notes;
-        let things = things_of(alloc, &image, notes, &placed)?;
+        let certificate = loaded.claim().certificate;
+        let filled = stretches_of(alloc, &certificate.notes, &certificate.areas)?;
+        let things = things_of(alloc, &image, &filled, &placed)?;
         Ok(PlacedClaim {
             loaded,
             image,
             plain,
             placed,
             section_count,
+            filled,
             things,
         })
     }
@@ -148,7 +154,22 @@ impl<'o, 'a> PlacedClaim<'o, 'a> {
         sections
     }
 
-    /// All that takes up memory: headers, notes, sections and common blocks.
+    /// What the linker filled: its notes, and behind these the areas of merged strings and constants.
+    pub fn filled(&self) -> &[StretchLine]
+        ensures { result.now
+            ≡ self.entry.now.certificate.notes ++ self.entry.now.certificate.areas }
+    {
+        &self.filled
+    }
+
+    /// The link as it was loaded.
+    pub fn loaded(&self) -> &'o LoadedClaim<'o, 'a>
+        ensures { result.now ≡ self.entry.now }
+    {
+        self.loaded
+    }
+
+    /// All that takes up memory: headers, notes, areas, sections and common blocks.
     pub fn things(&self) -> &[Thing]
         ensures { result.now ≡ things_of self.entry.now }
     {

@@ -13,6 +13,7 @@ mod kept_sections;
 mod linker_names;
 mod loading_orders;
 mod made_notes;
+mod merged_strings;
 mod places;
 mod rewritten_code;
 mod rewritten_links;

@@ -1,5 +1,5 @@
 -- The lines of sections that are left out, which come by object and section: what is before a section, and whether it is there.
-use Rattle.std.proofs.Common.{◌≡◌, ℕ, zero, suc, ◌+◌, ◌<◌, ◌≤◌, ◌⊎◌, inl, inr, true, false, List, length, get_or, sym, ap, subst, ◌∙◌, arith}
+use Rattle.std.proofs.Common.{◌≡◌, ℕ, ◌<◌, ◌≤◌, ◌⊎◌, inl, inr, true, false, List, length, get_or, sym, ap, subst, ◌∙◌, arith}
 use Rattle.std.specs.Prelude.{Any}
 use Rattle.std.specs.Bool.{Decides}
 use Rattle.std.specs.List.Sorted.{IsPartitionedBy}
@@ -10,6 +10,7 @@ use Rattle.elf_model.specs.Image.MapText.{Ascends, DropBefore}
 use Rattle.elf_model.specs.declared.link_map.DropLine.{DropLine}
 use Rattle.judge_model.specs.Certificates.{is_left_out}
 use Rattle.link_fields.specs.Drops.{is_before, is_of}
+use Rattle.link_fields.proofs.Rising.{later_in}
 
 abbrev line_of : ℕ → ℕ → DropLine
 line_of object section = record { object = object; section = section }
@@ -22,15 +23,7 @@ joined p q r (inr a) (inr b) = inr (a.0 ∙ b.0, let m = a.1 in let n = b.1 in o
 
 -- lines that stand apart are before each other
 later_line : (ds : List DropLine) → Ascends DropBefore ds → (i j : ℕ) (d : DropLine) → i < j → j < length ds → DropBefore (get_or ds i d) (get_or ds j d)
-later_line ds up i zero d order within = absurd (omega (arith, order))
-later_line ds up i (suc j) d order within = by (cases_lt i j) (λ before. later_line ds up i j d before (omega (arith, within)))
-  where
-    next : DropBefore (get_or ds j d) (get_or ds (suc j) d)
-    next = let one : j + 1 ≡ suc j = omega arith in subst (λ (k : ℕ). DropBefore (get_or ds j d) (get_or ds k d)) one (up j d (omega (arith, within)))
-
-    by : (i < j) ⊎ (j ≤ i) → (i < j → DropBefore (get_or ds i d) (get_or ds j d)) → DropBefore (get_or ds i d) (get_or ds (suc j) d)
-    by (inl before) earlier = joined (get_or ds i d) (get_or ds j d) (get_or ds (suc j) d) (earlier before) next
-    by (inr same_place) earlier = let e : j ≡ i = omega (arith, order, same_place) in subst (λ (k : ℕ). DropBefore (get_or ds k d) (get_or ds (suc j) d)) e next
+later_line ds up i j d order within = later_in DropBefore joined ds up i j d order within
 
 module _ (object section : ℕ) where
   decides_before : (d : DropLine) → Decides (is_before object section d) (DropBefore d (line_of object section))

@@ -1,6 +1,9 @@
 -- The field of a relocation is right by a link's parts exactly where it is right.
-use Rattle.std.proofs.Common.{◌≡◌, ℕ, ◌<◌, ◌⊎◌, inl, inr, true, List, length, Option, None, Some, refl, sym, subst, ◌∙◌}
-use Rattle.std.specs.Prelude.{◌↔◌, All, Any, IsSomeAnd, not}
+use Rattle.std.proofs.Common.{◌≡◌, ℕ, Bool, ◌-◌, ◌<◌, ◌⊎◌, inl, inr, true, false, cond, List, length, Option, None, Some, refl, sym, ap, subst, ◌∙◌}
+use Rattle.std.specs.Prelude.{◌↔◌, All, Any, Contains, IsSomeAnd, not, unwrap_or}
+use Rattle.std.specs.List.{list_any}
+use Rattle.std.proofs.lemmas.Bool.{false_from_ne_true, false≢true}
+use Rattle.std.proofs.lemmas.List.Folds.{list_any-from_Any}
 use Rattle.std.proofs.lemmas.List.Elements.{All-weaker}
 use Rattle.std.proofs.lemmas.Option.{same_Some}
 use Rattle.elf_model.specs.Inputs.ObjectFile.{rela_type}
@@ -14,14 +17,15 @@ use Rattle.elf_model.specs.declared.link_map.DropLine.{DropLine}
 use Rattle.elf_model.specs.declared.thing.Thing.{Thing}
 use Rattle.judge_model.specs.Certificates.{is_left_out}
 use Rattle.judge_model.specs.Fields as fields
-use Rattle.judge_model.specs.Fields.{HasSlotAt, HoldsField, HoldsPlain, HoldsValue, IsFieldRight, IsRewritten, IsSlot, instruction_of, is_code_in, kind_of, rewritten, slot_thing}
-use Rattle.judge_model.specs.Links.{ForeignLink, is_in_image_too, objects_of, relocations_of, sections_of}
+use Rattle.judge_model.specs.Fields.{HasSlotAt, HoldsField, HoldsPlain, HoldsValue, IsFieldRight, IsRewritten, IsSlot, instruction_of, is_code_in, kind_of, rewritten, rewritten_entry, slot_thing}
+use Rattle.judge_model.specs.Links.{ForeignLink, is_in_image_too, objects_of, placed_of, relocations_of, sections_of}
 use Rattle.judge_model.specs.Means as means
 use Rattle.judge_model.specs.Placed.{things_of}
 use Rattle.judge_model.specs.Rewrites.{Instruction, front_of, rewrite_of, rewritings}
 use Rattle.judge_model.specs.declared.rewriting.Rewriting.{Rewriting}
+use Rattle.judge_model.specs.declared.rewriting.Rewriting.TheVariants as row
 use Rattle.judge_model.specs.Runs.{IsBetween}
-use Rattle.field_judge.specs.Given.{HasSlotIn, HoldsPlainIn, HoldsValueIn, IsRightIn, slot_value}
+use Rattle.field_judge.specs.Given.{Given, HasSlotIn, HoldsPlainIn, HoldsValueIn, IsRightIn, slot_value}
 use Rattle.field_judge.proofs.RowLaws.{no_slot}
 use Rattle.field_judge.specs.Rewritten.{IsOfKind, IsRewrittenIn}
 use Rattle.memory_judge.specs.Slots.{IsClear, IsSlotAmong}
@@ -29,7 +33,25 @@ use Rattle.link_fields.proofs.Lists.{apart_from, never_in, passing}
 use Rattle.link_fields.specs.Slots.{AsksSlotIn, AsksSlotUnlessOut}
 use Rattle.elf_model.proofs.Finding.{Any-from_contains}
 use Rattle.elf_model.proofs.Listed.{Contains-filter, Contains-from_filter}
-use Rattle.link_fields.specs.Parts.{AreTaken, IsFieldRightIn, IsFieldRightUnlessOut, given, has_frames, meant, parts_of}
+use Rattle.link_fields.specs.Parts.{AreTaken, IsFieldRightIn, IsFieldRightUnlessOut, address_of, definition_of, given, has_frames, is_thread_use, meant, parts_of, size_of}
+
+-- no relocation of a kind whose formula is S + A is rewritten
+no_sums : (w : Rewriting) → list_any means.is_sum (rewrite_of w).types ≡ false
+no_sums row.MovToLea = refl
+no_sums row.MovToImmediate = refl
+no_sums row.TestToImmediate = refl
+no_sums row.OperationToImmediate = refl
+no_sums row.CallWithPrefix = refl
+no_sums row.CallBehindNop = refl
+no_sums row.CallBeforeNop = refl
+no_sums row.JumpBehindNop = refl
+no_sums row.JumpBeforeNop = refl
+no_sums row.ThreadMovToImmediate = refl
+no_sums row.ThreadAddToImmediate = refl
+no_sums row.ThreadAddToLea = refl
+
+no_sum : (w : Rewriting) (t : ℕ) → Contains (rewrite_of w).types t → means.is_sum t ≡ false
+no_sum w t c = false_from_ne_true (means.is_sum t) (λ yes. false≢true (sym (no_sums w) ∙ list_any-from_Any means.is_sum (rewrite_of w).types (c.0, t, c.1, c.2, yes)))
 
 module _ (l : ForeignLink) (taken : List Thing) (are : AreTaken l taken) where
   -- slots
@@ -60,7 +82,7 @@ module _ (l : ForeignLink) (taken : List Thing) (are : AreTaken l taken) where
       by a here (inr gap) = s.outside gap.0 gap.1 a gap.2 here
 
   module _ (r : Relocation) where
-    meant_is : means.meant l r ≡ meant (parts_of l) (has_frames r.name) r.symbol
+    meant_is : means.meant l r ≡ meant (parts_of l) (has_frames r.name) r.symbol (means.added r.entry)
     unfolding means.meant
     meant_is = refl
 
@@ -124,7 +146,7 @@ module _ (l : ForeignLink) (taken : List Thing) (are : AreTaken l taken) where
         HoldsPlainIn l.image taken (given (parts_of l) r) k o → HoldsPlain l r k o
     plain_of k None kind_is asks h =
         subst (λ (m : Option ℕ). IsSomeAnd m (λ v. HoldsValue l r k v 0)) (sym meant_is)
-        (held (meant (parts_of l) (has_frames r.name) r.symbol) h)
+        (held (meant (parts_of l) (has_frames r.name) r.symbol (means.added r.entry)) h)
       where
         held : (m : Option ℕ) → IsSomeAnd m (λ v. HoldsValueIn l.image (given (parts_of l) r) k v 0) → IsSomeAnd m (λ v. HoldsValue l r k v 0)
         held None never = never
@@ -135,7 +157,7 @@ module _ (l : ForeignLink) (taken : List Thing) (are : AreTaken l taken) where
         (k : Kind) (o : Option SlotKind) → kind_of r ≡ Some k → slot_kind_of k.formula ≡ o →
         HoldsPlain l r k o → HoldsPlainIn l.image taken (given (parts_of l) r) k o
     plain_in k None kind_is asks h =
-        held (meant (parts_of l) (has_frames r.name) r.symbol)
+        held (meant (parts_of l) (has_frames r.name) r.symbol (means.added r.entry))
         (subst (λ (m : Option ℕ). IsSomeAnd m (λ v. HoldsValue l r k v 0)) meant_is h)
       where
         held : (m : Option ℕ) → IsSomeAnd m (λ v. HoldsValue l r k v 0) → IsSomeAnd m (λ v. HoldsValueIn l.image (given (parts_of l) r) k v 0)
@@ -164,7 +186,7 @@ module _ (l : ForeignLink) (taken : List Thing) (are : AreTaken l taken) where
       told.0,
       told.1,
       subst (HoldsPlain l r k) (sym free)
-          (held (meant (parts_of l) (has_frames r.name) r.symbol) meant_is (subst (HoldsPlainIn l.image taken (given (parts_of l) r) k) free told.2)),
+          (held (meant (parts_of l) (has_frames r.name) r.symbol (means.added r.entry)) meant_is (subst (HoldsPlainIn l.image taken (given (parts_of l) r) k) free told.2)),
     )
       where
         held :
@@ -179,7 +201,7 @@ module _ (l : ForeignLink) (taken : List Thing) (are : AreTaken l taken) where
       told.0,
       told.1,
       subst (HoldsPlainIn l.image taken (given (parts_of l) r) k) (sym free)
-          (held (meant (parts_of l) (has_frames r.name) r.symbol)
+          (held (meant (parts_of l) (has_frames r.name) r.symbol (means.added r.entry))
           (subst (λ (m : Option ℕ). IsSomeAnd m (λ v. HoldsValue l r k v 0)) meant_is (subst (HoldsPlain l r k) free told.2))),
     )
       where
@@ -192,6 +214,26 @@ module _ (l : ForeignLink) (taken : List Thing) (are : AreTaken l taken) where
     abbrev own : Instruction
     own = instruction_of (objects_of l) r
 
+    -- what a row's field is given, with the addend that may say what a symbol means; none does of a row's types
+    abbrev with_added : Rewriting → Option ℕ → Given
+    with_added w a = record {
+      value = meant (parts_of l) (has_frames r.name) r.symbol a;
+      addend = ((rewrite_of w).put own).addend;
+      at = unwrap_or (address_of (placed_of l) r.object r.section) 0;
+      offset = r.entry.r_offset - length (rewrite_of w).behind;
+      size = size_of (definition_of (parts_of l) r.symbol);
+      got = l.certificate.got;
+      thread = is_thread_use (objects_of l) (definition_of (parts_of l) r.symbol);
+    }
+
+    same_added :
+        (w : Rewriting) → Contains (rewrite_of w).types (rela_type r.entry) →
+        means.added r.entry ≡ means.added (rewritten_entry r.entry (length (rewrite_of w).behind) ((rewrite_of w).put own).addend)
+    same_added w type =
+        let none = no_sum w (rela_type r.entry) type in
+        ap (λ (b : Bool). cond b (means.natural r.entry.r_addend) None) none
+        ∙ sym (ap (λ (b : Bool). cond b (means.natural ((rewrite_of w).put own).addend) None) none)
+
     -- a row's
     row_of :
         (w : Rewriting) → 0 < front_of r.entry → is_code_in (objects_of l) r ≡ true →
@@ -203,7 +245,8 @@ module _ (l : ForeignLink) (taken : List Thing) (are : AreTaken l taken) where
       instruction = h.instruction;
       front = h.front_is;
       field =
-          free_of (rewritten r (length (rewrite_of w).behind) ((rewrite_of w).put own).addend) ((rewrite_of w).put own).kind (no_slot w own) h.field;
+          free_of (rewritten r (length (rewrite_of w).behind) ((rewrite_of w).put own).addend) ((rewrite_of w).put own).kind (no_slot w own)
+          (subst (λ (a : Option ℕ). IsRightIn l.image taken (with_added w a) ((rewrite_of w).put own).kind) (same_added w h.type_) h.field);
       behind = h.behind;
     }
 
@@ -213,7 +256,8 @@ module _ (l : ForeignLink) (taken : List Thing) (are : AreTaken l taken) where
       instruction = h.instruction;
       front_is = h.front;
       field =
-          free_in (rewritten r (length (rewrite_of w).behind) ((rewrite_of w).put own).addend) ((rewrite_of w).put own).kind (no_slot w own) h.field;
+          subst (λ (a : Option ℕ). IsRightIn l.image taken (with_added w a) ((rewrite_of w).put own).kind) (sym (same_added w h.type_))
+          (free_in (rewritten r (length (rewrite_of w).behind) ((rewrite_of w).put own).addend) ((rewrite_of w).put own).kind (no_slot w own) h.field);
       behind = h.behind;
     }
 

@@ -3,9 +3,11 @@ pub mod DropLaws
 pub mod FieldParts
 pub mod ForeignFields
 pub mod Lists
+pub mod MergedLaws
 pub mod OwnPlaces
 pub mod OwnRelocations
 pub mod PartitionPoints
+pub mod Rising
 pub mod Rows
 pub mod SlotSteps
 pub mod WholePieces

@@ -1,12 +1,11 @@
 -- Sections that take up memory lie whole in segments where each that does so lies in one with its rights.
-use Rattle.std.proofs.Common.{◌≡◌, ℕ, ◌<◌, ◌⊎◌, inl, inr, Bool, true, false, cond, List, subst, sym, arith}
+use Rattle.std.proofs.Common.{◌≡◌, ℕ, ◌<◌, ◌⊎◌, inl, inr, Bool, true, false, cond, List, subst, arith}
 use Rattle.std.specs.Prelude.{All, Any}
 use Rattle.std.proofs.lemmas.Bool.{cases_Bool}
 use Rattle.std.proofs.lemmas.List.Elements.{All-weaker}
 use Rattle.elf_model.specs.Image.MemoryImage.{Encloses, loads}
 use Rattle.elf_model.specs.Link.Pieces.{is_thread_zero, load_size}
 use Rattle.elf_model.specs.Link.Placement.{Placed}
-use Rattle.elf_model.specs.declared.records.ProgramHeader.{ProgramHeader}
 use Rattle.judge_model.specs.Placed.{HasPlace, LiesIn}
 use Rattle.link_fields.specs.Rests.{LiesWhole}
 

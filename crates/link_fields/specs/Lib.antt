@@ -1,5 +1,6 @@
 pub mod Drops
 pub mod Fields
+pub mod MergedLines
 pub mod Parts
 pub mod Rests
 pub mod Slots

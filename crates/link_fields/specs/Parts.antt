@@ -1,7 +1,7 @@
 -- The parts of a link by which fields are judged, and what symbols mean by these alone.
 use Rattle.std.specs.Prelude.{◌≡◌, ◌⊎◌, ◌↔◌, ℕ, ◌+◌, ◌%◌, ◌^◌, ◌==◌, ◌&&◌, ◌||◌, Bool, true, false, not, cond, List, Option, None, Some, Any, codes, find, is_some, option_map, unwrap_or}
 use Rattle.std.specs.List.{list_any}
-use Rattle.std.specs.Option.{option_map_or, option_or}
+use Rattle.std.specs.Option.{option_and_then, option_map_or, option_or}
 use Rattle.std.specs.Str.{bytes_eq}
 use Rattle.elf_model.specs.Inputs.ObjectFile.{rela_type}
 use Rattle.elf_model.specs.Link.LinkerNames.{fixed_bound, named_output, output_bound}
@@ -17,22 +17,24 @@ use Rattle.elf_model.specs.declared.thing.Thing.{Thing}
 use Rattle.judge_model.specs.Certificates.{NameRow, is_left_out, value_of_name}
 use Rattle.judge_model.specs.Fields.{instruction_of, is_code_in}
 use Rattle.judge_model.specs.Links.{ForeignLink, objects_of, pieces_of, placed_of, sections_of}
-use Rattle.judge_model.specs.Means.{undefined_value}
+use Rattle.judge_model.specs.Means.{added, is_of_section_itself, merged_base, merged_value, undefined_value}
 use Rattle.judge_model.specs.Placed.{things_of}
 use Rattle.judge_model.specs.Plans.{Script, is_match}
 use Rattle.judge_model.specs.Rewrites.{front_of}
+use Rattle.judge_model.specs.declared.certificate.MergedLine.{MergedLine}
 use Rattle.judge_model.specs.Runs.{IsBetween}
 use Rattle.field_judge.specs.Given.{Given}
 use Rattle.field_judge.specs.Rewritten.{IsPlaceRight}
 use Rattle.link_fields.specs.declared.meanings.Meant.{Meant}
 
--- the image, the objects, the sections of the image, these and common blocks at their addresses, the certificate's values of names and
--- the address that it gives the GOT, and the script
+-- the image, the objects, the sections of the image, these and common blocks at their addresses, the certificate's lines of merged
+-- strings and constants, its values of names and the address that it gives the GOT, and the script
 pub record Parts : Type 0 where
   pub image : List ℕ
   pub objects : List LoadedObject
   pub pieces : List Piece
   pub placed : List Placed
+  pub merged : List MergedLine
   pub rows : List NameRow
   pub got : Option ℕ
   pub script : Option Script
@@ -43,6 +45,7 @@ parts_of l = record {
   objects = objects_of l;
   pieces = pieces_of l;
   placed = placed_of l;
+  merged = l.certificate.merged;
   rows = l.certificate.names;
   got = l.certificate.got;
   script = l.plan.script;
@@ -74,37 +77,52 @@ object_or_linker objects pieces name = option_or (object_meaning objects name) (
 abbrev pub address_of : List Placed → ℕ → ℕ → Option ℕ
 address_of placed object number = option_map (λ q. q.at) (find (is_of_section object number) placed)
 
-abbrev pub symbol_value : List Placed → SymbolOf → Option ℕ
-symbol_value placed s =
-    cond (is_absolute s.entry) (Some s.entry.st_value) (option_map (λ a. a + s.entry.st_value) (address_of placed s.object s.entry.st_shndx))
+abbrev pub value_in_section : List Placed → SymbolOf → Option ℕ → Option ℕ
+value_in_section placed s merged =
+    cond (is_absolute s.entry) (Some s.entry.st_value)
+    (option_or (option_map (λ a. a + s.entry.st_value) (address_of placed s.object s.entry.st_shndx)) merged)
 
-abbrev pub value_of : List Placed → List NameRow → Meaning → Option ℕ
-value_of placed rows (Symbol s) = symbol_value placed s
-value_of placed rows (Common b) = address_of placed b.object b.number
-value_of placed rows (Linker name bound) = value_of_name rows name
+abbrev pub symbol_value : List Placed → List MergedLine → SymbolOf → Option ℕ
+symbol_value placed merged s = value_in_section placed s (merged_value merged s)
+
+abbrev pub value_of : List Placed → List MergedLine → List NameRow → Meaning → Option ℕ
+value_of placed merged rows (Symbol s) = symbol_value placed merged s
+value_of placed merged rows (Common b) = address_of placed b.object b.number
+value_of placed merged rows (Linker name bound) = value_of_name rows name
 
 abbrev pub named_value : Parts → SymbolOf → Option ℕ
 named_value p s =
     cond (is_by_script p s.name) (value_of_name p.rows s.name)
-    (option_map_or (value_of p.placed p.rows) (object_or_linker p.objects p.pieces s.name) (undefined_value s))
+    (option_map_or (value_of p.placed p.merged p.rows) (object_or_linker p.objects p.pieces s.name) (undefined_value s))
 
-abbrev pub local_value : List Placed → SymbolOf → Option ℕ
-local_value placed s = cond (s.number == 0) (Some 0) (cond (is_undefined s.entry) None (symbol_value placed s))
+-- those of LOCAL symbols, by the addend of a relocation that names one, where its kind lets the addend say what is meant
+abbrev pub reference : List MergedLine → SymbolOf → Option ℕ → Option ℕ
+reference merged s a = option_and_then (merged_base merged s) a
+
+abbrev pub section_value : List Placed → List MergedLine → SymbolOf → Option ℕ → Option ℕ
+section_value placed merged s a = value_in_section placed s (reference merged s a)
+
+abbrev pub defined_value : List Placed → List MergedLine → SymbolOf → Option ℕ → Option ℕ
+defined_value placed merged s a = cond (is_of_section_itself s) (section_value placed merged s a) (symbol_value placed merged s)
+
+abbrev pub local_value : List Placed → List MergedLine → SymbolOf → Option ℕ → Option ℕ
+local_value placed merged s a =
+    cond (s.number == 0) (Some 0) (cond (is_undefined s.entry) None (defined_value placed merged s a))
 
 -- a section, by its name, has frames, and the symbol is one of a section that isn't placed
 abbrev pub is_frame_of_missing : List Placed → Bool → SymbolOf → Bool
 is_frame_of_missing placed frames s = frames && not (is_some (address_of placed s.object s.entry.st_shndx))
 
-abbrev pub local_meant : List Placed → Bool → SymbolOf → Option ℕ
-local_meant placed frames s =
-    option_or (local_value placed s) (cond (is_frame_of_missing placed frames s && not (is_undefined s.entry)) (Some 0) None)
+abbrev pub local_meant : List Placed → List MergedLine → Bool → SymbolOf → Option ℕ → Option ℕ
+local_meant placed merged frames s a =
+    option_or (local_value placed merged s a) (cond (is_frame_of_missing placed frames s && not (is_undefined s.entry)) (Some 0) None)
 
 abbrev pub has_frames : List ℕ → Bool
 has_frames name = bytes_eq name (codes ".eh_frame")
 
--- what a symbol means to relocations of a section which has frames, or hasn't
-abbrev pub meant : Parts → Bool → SymbolOf → Option ℕ
-meant p frames s = cond (is_local s) (local_meant p.placed frames s) (named_value p s)
+-- what a symbol means to a relocation of a section which has frames, or hasn't, with the addend that may say what is meant
+abbrev pub meant : Parts → Bool → SymbolOf → Option ℕ → Option ℕ
+meant p frames s a = cond (is_local s) (local_meant p.placed p.merged frames s a) (named_value p s)
 
 abbrev pub local_definition : SymbolOf → Option Meaning
 local_definition s = cond (is_undefined s.entry) None (Some (Symbol s))
@@ -120,8 +138,8 @@ abbrev pub is_thread_use : List LoadedObject → Option Meaning → Bool
 is_thread_use objects definition = option_map_or (is_in_thread_storage objects) definition false
 
 -- what the code finds of a symbol, the value modulo 2 ^ 64
-pub record IsMeant (p : Parts) (frames : Bool) (s : SymbolOf) (m : Meant) : Type 0 where
-  pub value : m.value ≡ option_map (λ v. v % 2 ^ 64) (meant p frames s)
+pub record IsMeant (p : Parts) (frames : Bool) (s : SymbolOf) (a : Option ℕ) (m : Meant) : Type 0 where
+  pub value : m.value ≡ option_map (λ v. v % 2 ^ 64) (meant p frames s a)
   pub thread : m.thread ≡ is_thread_use p.objects (definition_of p s)
   pub size : m.size ≡ size_of (definition_of p s)
 
@@ -130,7 +148,7 @@ pub record IsMeant (p : Parts) (frames : Bool) (s : SymbolOf) (m : Meant) : Type
 -- what a relocation gives its field
 abbrev pub given : Parts → Relocation → Given
 given p r = record {
-  value = meant p (has_frames r.name) r.symbol;
+  value = meant p (has_frames r.name) r.symbol (added r.entry);
   addend = r.entry.r_addend;
   at = unwrap_or (address_of p.placed r.object r.section) 0;
   offset = r.entry.r_offset;

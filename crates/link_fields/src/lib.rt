@@ -4,13 +4,16 @@
 //! Begin with `LinkParts`, the parts of a link without a script. `are_fields_right` decides F5, given where memory is taken, and
 //! `are_rests_right` F7, where each section lies whole in a segment as F3 asks. A field's own bytes tell where its slot is;
 //! `slots_of` lists these. Code that linkers rewrite may stand in place of what takes an address from a slot.
-//! Merged strings and edited frames have no fields here, as the definitions ask that they aren't edited.
+//! What names a string or a constant that was merged means the place that the certificate gives it. Edited frames have no fields
+//! here, as the definitions ask that they aren't edited.
 #![tactic(auto)]
 
 mod addresses;
 mod drops;
 mod linker_values;
 mod meanings;
+mod mergeable;
+mod merged_lines;
 mod object_fields;
 mod own_rests;
 mod parts;
@@ -19,7 +22,9 @@ mod slots;
 
 pub use addresses::Addresses;
 pub use drops::Drops;
-pub use meanings::{Meant, definition_of, symbol_meant};
+pub use meanings::{Meant, definition_of, merged_value, symbol_meant};
+pub use mergeable::is_mergeable;
+pub use merged_lines::MergedLines;
 pub use object_fields::place_of;
 pub use own_rests::are_rests_right;
 pub use parts::LinkParts;

@@ -6,19 +6,21 @@ ghost use Rattle.elf_model.specs.Link.Relocation.{is_local};
 ghost use Rattle.check_link.specs.Views.{meaning_view, symbol_view};
 ghost use Rattle.check_load.specs.Views.{loaded_views};
 ghost use Rattle.judge_model.specs.Certificates.{name_row};
+ghost use Rattle.judge_model.specs.Means as means;
 ghost use Rattle.judge_model.specs.Means.{undefined_value};
 ghost use Rattle.link_fields.specs.Parts as parts;
 ghost use Rattle.link_fields.specs.Parts.{IsMeant, is_thread_use, size_of};
 
 use crate::addresses::Addresses;
 use crate::linker_values::row_value;
+use crate::merged_lines::MergedLines;
 use crate::parts::LinkParts;
 use check_link::{
     Meaning, Names, Outputs, SymbolOf, fixed_bound, is_in_thread_section, named_output,
     output_bound,
 };
 use check_load::Loaded;
-use elf_model::{Bound, SHN_ABS, SHN_UNDEF, STB_LOCAL, STB_WEAK};
+use elf_model::{Bound, SHN_ABS, SHN_UNDEF, STB_LOCAL, STB_WEAK, STT_SECTION};
 use judge_model::NameLine;
 
 /// What a relocation's symbol means: its value modulo 2^64, where it has one, whether it is in thread-local storage, and its size
@@ -30,11 +32,56 @@ pub struct Meant {
     pub size: u64,
 }
 
+/// Where the string or the constant is of which a symbol has a byte; None where its section has no such line.
+pub fn merged_value(merged: &MergedLines<'_>, symbol: &SymbolOf<'_>) -> Option<u128>
+    ensures { result ≡ means.merged_value merged.now (symbol_view symbol.now) }
+{
+    let entry = symbol.entry;
+    merged.at(symbol.object, entry.st_shndx as u64, entry.st_value as u128)
+}
+
+/// The value of a section itself to a relocation with an addend that says which string or constant of the section is meant.
+fn merged_base(merged: &MergedLines<'_>, symbol: &SymbolOf<'_>, addend: u64) -> Option<u128>
+    ensures { result ≡ means.merged_base merged.now (symbol_view symbol.now) addend }
+{
+    let entry = symbol.entry;
+    let meant = entry.st_value as u128 + addend as u128;
+    let at = merged.at(symbol.object, entry.st_shndx as u64, meant)?;
+    at.checked_sub(addend as u128)
+}
+
+/// The same, where there is such an addend.
+fn reference(merged: &MergedLines<'_>, symbol: &SymbolOf<'_>, added: Option<u64>) -> Option<u128>
+    ensures { result ≡ parts.reference merged.now (symbol_view symbol.now) added }
+{
+    match added {
+        Some(addend) => merged_base(merged, symbol, addend),
+        None => None,
+    }
+}
+
+/// How many values 64 bits have.
+const VALUES: u128 = 1 << 64;
+
+/// The lowest 64 bits of a number.
+fn low(value: Option<u128>) -> Option<u64>
+    ensures { result ≡ option_map (λ v. v % 2 ^ 64) value }
+{
+    match value {
+        Some(value) => Some((value % VALUES) as u64),
+        None => None,
+    }
+}
+
 /// The value of a defined symbol modulo 2^64: an absolute one's `st_value`, else the address of its section plus `st_value`;
-/// None where the section has no address.
-fn symbol_value(addresses: &Addresses<'_, '_>, symbol: &SymbolOf<'_>) -> Option<u64>
+/// another one where the section has no address.
+fn value_in_section(
+    addresses: &Addresses<'_, '_>,
+    symbol: &SymbolOf<'_>,
+    merged: Option<u128>,
+) -> Option<u64>
     ensures { result ≡ option_map (λ v. v % 2 ^ 64)
-        (parts.symbol_value addresses.now (symbol_view symbol.now)) }
+        (parts.value_in_section addresses.now (symbol_view symbol.now) merged) }
 {
     let entry = symbol.entry;
     if entry.st_shndx == SHN_ABS {
@@ -42,17 +89,35 @@ fn symbol_value(addresses: &Addresses<'_, '_>, symbol: &SymbolOf<'_>) -> Option<
     }
     match addresses.address(symbol.object, entry.st_shndx as u64) {
         Some(at) => Some(at.wrapping_add(entry.st_value)),
-        None => None,
+        None => low(merged),
     }
 }
 
-/// The value of what a name means, modulo 2^64; None where the image hasn't got it.
-fn value_of(addresses: &Addresses<'_, '_>, rows: &[NameLine], meaning: &Meaning<'_>) -> Option<u64>
+/// The value of a defined symbol modulo 2^64; None where the image hasn't got its section, or what is there.
+fn symbol_value(
+    addresses: &Addresses<'_, '_>,
+    merged: &MergedLines<'_>,
+    symbol: &SymbolOf<'_>,
+) -> Option<u64>
     ensures { result ≡ option_map (λ v. v % 2 ^ 64)
-        (parts.value_of addresses.now (map name_row rows.now) (meaning_view meaning.now)) }
+        (parts.symbol_value addresses.now merged.now (symbol_view symbol.now)) }
+{
+    value_in_section(addresses, symbol, merged_value(merged, symbol))
+}
+
+/// The value of what a name means, modulo 2^64; None where the image hasn't got it.
+fn value_of(
+    addresses: &Addresses<'_, '_>,
+    merged: &MergedLines<'_>,
+    rows: &[NameLine],
+    meaning: &Meaning<'_>,
+) -> Option<u64>
+    ensures { result ≡ option_map (λ v. v % 2 ^ 64)
+        (parts.value_of addresses.now merged.now (map name_row rows.now)
+        (meaning_view meaning.now)) }
 {
     match meaning {
-        Meaning::Symbol(symbol) => symbol_value(addresses, symbol),
+        Meaning::Symbol(symbol) => symbol_value(addresses, merged, symbol),
         Meaning::Common(block) => addresses.address(block.object, block.number),
         Meaning::Linker(name, _) => row_value(rows, name),
     }
@@ -61,16 +126,17 @@ fn value_of(addresses: &Addresses<'_, '_>, rows: &[NameLine], meaning: &Meaning<
 /// The value of a name's definition modulo 2^64; without one, 0 of a WEAK symbol, and None of another.
 fn value_by(
     addresses: &Addresses<'_, '_>,
+    merged: &MergedLines<'_>,
     rows: &[NameLine],
     definition: &Option<Meaning<'_>>,
     symbol: &SymbolOf<'_>,
 ) -> Option<u64>
     ensures { result ≡ option_map (λ v. v % 2 ^ 64) (option_map_or
-        (parts.value_of addresses.now (map name_row rows.now))
+        (parts.value_of addresses.now merged.now (map name_row rows.now))
         (option_map meaning_view definition.now) (undefined_value (symbol_view symbol.now))) }
 {
     match definition {
-        Some(meaning) => value_of(addresses, rows, meaning),
+        Some(meaning) => value_of(addresses, merged, rows, meaning),
         None => {
             if symbol.entry.binding() == STB_WEAK {
                 Some(0)
@@ -152,10 +218,32 @@ fn size_of(definition: &Option<Meaning<'_>>) -> u64
     }
 }
 
-/// The value of a LOCAL symbol modulo 2^64; number 0 stands for none.
-fn local_value(addresses: &Addresses<'_, '_>, symbol: &SymbolOf<'_>) -> Option<u64>
+/// The value of a defined LOCAL symbol modulo 2^64 to a relocation with an addend that may say what is meant.
+fn defined_value(
+    addresses: &Addresses<'_, '_>,
+    merged: &MergedLines<'_>,
+    symbol: &SymbolOf<'_>,
+    added: Option<u64>,
+) -> Option<u64>
     ensures { result ≡ option_map (λ v. v % 2 ^ 64)
-        (parts.local_value addresses.now (symbol_view symbol.now)) }
+        (parts.defined_value addresses.now merged.now (symbol_view symbol.now) added) }
+{
+    if symbol.entry.symbol_type() == STT_SECTION {
+        value_in_section(addresses, symbol, reference(merged, symbol, added))
+    } else {
+        symbol_value(addresses, merged, symbol)
+    }
+}
+
+/// The value of a LOCAL symbol modulo 2^64; number 0 stands for none.
+fn local_value(
+    addresses: &Addresses<'_, '_>,
+    merged: &MergedLines<'_>,
+    symbol: &SymbolOf<'_>,
+    added: Option<u64>,
+) -> Option<u64>
+    ensures { result ≡ option_map (λ v. v % 2 ^ 64)
+        (parts.local_value addresses.now merged.now (symbol_view symbol.now) added) }
 {
     if symbol.number == 0 {
         return Some(0);
@@ -163,7 +251,7 @@ fn local_value(addresses: &Addresses<'_, '_>, symbol: &SymbolOf<'_>) -> Option<u
     if symbol.entry.st_shndx == SHN_UNDEF {
         return None;
     }
-    symbol_value(addresses, symbol)
+    defined_value(addresses, merged, symbol, added)
 }
 
 /// Whether a section has frames, by its name, and a symbol is one of a section that has no address.
@@ -177,11 +265,17 @@ fn is_frame_of_missing(addresses: &Addresses<'_, '_>, frames: bool, symbol: &Sym
 }
 
 /// What a LOCAL symbol's value is to a relocation of a section, modulo 2^64: frames have 0 for those of what the image lacks.
-fn local_meant(addresses: &Addresses<'_, '_>, frames: bool, symbol: &SymbolOf<'_>) -> Option<u64>
+fn local_meant(
+    addresses: &Addresses<'_, '_>,
+    merged: &MergedLines<'_>,
+    frames: bool,
+    symbol: &SymbolOf<'_>,
+    added: Option<u64>,
+) -> Option<u64>
     ensures { result ≡ option_map (λ v. v % 2 ^ 64)
-        (parts.local_meant addresses.now frames (symbol_view symbol.now)) }
+        (parts.local_meant addresses.now merged.now frames (symbol_view symbol.now) added) }
 {
-    if let Some(value) = local_value(addresses, symbol) {
+    if let Some(value) = local_value(addresses, merged, symbol, added) {
         return Some(value);
     }
     if is_frame_of_missing(addresses, frames, symbol) && symbol.entry.st_shndx != SHN_UNDEF {
@@ -202,38 +296,60 @@ fn local_definition<'a>(symbol: &SymbolOf<'a>) -> Option<Meaning<'a>>
 }
 
 /// What a LOCAL symbol means to relocations of a section.
-fn own_local<'a>(parts: &LinkParts<'_, '_, 'a>, frames: bool, symbol: &SymbolOf<'a>) -> Meant
+fn own_local<'a>(
+    parts: &LinkParts<'_, '_, 'a>,
+    frames: bool,
+    symbol: &SymbolOf<'a>,
+    added: Option<u64>,
+) -> Meant
     requires { is_local (symbol_view symbol.now) ≡ true }
-    ensures { IsMeant parts.now frames (symbol_view symbol.now) result }
+    ensures { IsMeant parts.now frames (symbol_view symbol.now) added result }
 {
     let definition = local_definition(symbol);
     Meant {
-        value: local_meant(parts.addresses, frames, symbol),
+        value: local_meant(parts.addresses, parts.merged, frames, symbol, added),
         thread: is_thread_use(parts.names.objects(), &definition),
         size: size_of(&definition),
     }
 }
 
 /// What a symbol means that isn't LOCAL, by its name.
-fn own_visible<'a>(parts: &LinkParts<'_, '_, 'a>, frames: bool, symbol: &SymbolOf<'a>) -> Meant
+fn own_visible<'a>(
+    parts: &LinkParts<'_, '_, 'a>,
+    frames: bool,
+    symbol: &SymbolOf<'a>,
+    added: Option<u64>,
+) -> Meant
     requires { is_local (symbol_view symbol.now) ≡ false }
-    ensures { IsMeant parts.now frames (symbol_view symbol.now) result }
+    ensures { IsMeant parts.now frames (symbol_view symbol.now) added result }
 {
     let definition = definition_of(parts.names, parts.outputs, symbol.name);
     Meant {
-        value: value_by(parts.addresses, parts.rows, &definition, symbol),
+        value: value_by(
+            parts.addresses,
+            parts.merged,
+            parts.rows,
+            &definition,
+            symbol,
+        ),
         thread: is_thread_use(parts.names.objects(), &definition),
         size: size_of(&definition),
     }
 }
 
-/// What a symbol means to relocations of a section, which has frames or hasn't.
-pub fn symbol_meant<'a>(parts: &LinkParts<'_, '_, 'a>, frames: bool, symbol: &SymbolOf<'a>) -> Meant
-    ensures { IsMeant parts.now frames (symbol_view symbol.now) result }
+/// What a symbol means to a relocation of a section, which has frames or hasn't, with the addend that says which string or constant
+/// of a section is meant, where it does.
+pub fn symbol_meant<'a>(
+    parts: &LinkParts<'_, '_, 'a>,
+    frames: bool,
+    symbol: &SymbolOf<'a>,
+    added: Option<u64>,
+) -> Meant
+    ensures { IsMeant parts.now frames (symbol_view symbol.now) added result }
 {
     if symbol.entry.binding() == STB_LOCAL {
-        own_local(parts, frames, symbol)
+        own_local(parts, frames, symbol, added)
     } else {
-        own_visible(parts, frames, symbol)
+        own_visible(parts, frames, symbol, added)
     }
 }

@@ -7,19 +7,21 @@ ghost use Rattle.judge_model.specs.Certificates.{name_row};
 ghost use Rattle.link_fields.specs.Parts as words;
 
 use crate::addresses::Addresses;
+use crate::merged_lines::MergedLines;
 use check_link::{Names, Outputs};
 use foreign_image::ForeignImage;
 use judge_model::NameLine;
 use std::marker::Model;
 
-/// The image, what the objects define, the output names of the image's sections, these at their addresses, the values that a
-/// certificate gives names, and the address that it gives the GOT. There is no script.
+/// The image, what the objects define, the output names of the image's sections, these at their addresses, the places of merged
+/// strings and constants, the values that a certificate gives names, and the address that it gives the GOT. There is no script.
 #[derive(Drop)]
 pub struct LinkParts<'l, 'p, 'a> {
     pub image: &'l ForeignImage<'a>,
     pub names: &'l Names<'l, 'a>,
     pub outputs: &'l Outputs<'l, 'a>,
     pub addresses: &'l Addresses<'p, 'a>,
+    pub merged: &'l MergedLines<'l>,
     pub rows: &'l [NameLine],
     pub got: Option<u64>,
 }
@@ -36,6 +38,7 @@ impl<'l, 'p, 'a> Model for LinkParts<'l, 'p, 'a> {
       objects = p.names.now;
       pieces = p.outputs.now;
       placed = p.addresses.now;
+      merged = p.merged.now;
       rows = map name_row p.rows.now;
       got = p.got;
       script = None;

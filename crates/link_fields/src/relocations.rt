@@ -2,6 +2,7 @@
 ghost use Rattle.std.specs.Prelude.{◌≡◌, ◌↔◌, ◌%◌, ◌^◌, [], All, IsTrue, Some, unwrap_or};
 ghost use Rattle.std.specs.List.{slice_get};
 ghost use Rattle.elf_model.specs.Inputs.ObjectFile as object_file;
+ghost use Rattle.elf_model.specs.Inputs.ObjectFile.{rela_symbol};
 ghost use Rattle.elf_model.specs.Link.Pieces.{is_executable};
 ghost use Rattle.elf_model.specs.Link.Relocation.{relocations, relocations_from, symbol_at};
 ghost use Rattle.check_link.specs.Views.{symbol_view};
@@ -11,6 +12,7 @@ ghost use Rattle.field_judge.specs.Given.{IsGiven, pointer_of};
 ghost use Rattle.field_judge.specs.Rewritten.{instruction_view};
 ghost use Rattle.link_fields.specs.Parts as words;
 ghost use Rattle.judge_model.specs.Links.{ForeignLink};
+ghost use Rattle.judge_model.specs.Means.{added, is_sum, natural};
 ghost use Rattle.judge_model.specs.Rewrites.{instruction_in};
 ghost use Rattle.judge_model.specs.RightForeign.{Holds};
 ghost use Rattle.judge_model.specs.declared.judgement.Requirement.TheVariants as requirement;
@@ -21,7 +23,7 @@ use crate::meanings::{Meant, symbol_meant};
 use crate::parts::LinkParts;
 use check_link::SymbolOf;
 use check_load::{KeptRelocation, Loaded};
-use elf_model::SHF_EXECINSTR;
+use elf_model::{Rela, SHF_EXECINSTR};
 use elf_read::ObjectFile;
 use field_judge::{
     Asked, Instruction, front_of, instruction_in, is_of_kind, is_place_right, thread_pointer,
@@ -52,21 +54,50 @@ fn has_frames(object: &ObjectFile<'_>, section: usize) -> bool
     }
 }
 
-/// What symbol `j` of object `number` means to relocations of a section.
+/// Whether the formula of a kind is S + A (AMD64 psABI 4.4): R_X86_64_64, 32, 32S, 16 or 8.
+fn is_sum(kind: u32) -> bool
+    ensures { result ≡ is_sum kind }
+{
+    kind == 1 || kind == 10 || kind == 11 || kind == 12 || kind == 14
+}
+
+/// The addend as a number, where it isn't negative.
+fn natural(addend: i64) -> Option<u64>
+    ensures { result ≡ natural addend }
+{
+    if addend < 0 {
+        return None;
+    }
+    Some(addend as u64)
+}
+
+/// The addend of a relocation that says which string or constant of a section is meant, where the section itself is named: one that
+/// isn't negative, of a kind whose formula is S + A.
+fn added(entry: &Rela) -> Option<u64>
+    ensures { result ≡ added entry.now }
+{
+    if is_sum(entry.kind()) {
+        natural(entry.r_addend)
+    } else {
+        None
+    }
+}
+
+/// What the symbol of a relocation of a section of object `number` means to it.
 fn meant_at<'a>(
     parts: &LinkParts<'_, '_, 'a>,
     number: u64,
     loaded: &Loaded<'a>,
     section: u32,
-    j: u32,
+    entry: &Rela,
 ) -> Meant
     ensures { IsMeant parts.now
         (words.has_frames (unwrap_or (object_file.section_name loaded.now.object section) []))
-        (symbol_at number (loaded_view loaded.now) j) result }
+        (symbol_at number (loaded_view loaded.now) (rela_symbol entry.now)) (added entry.now) result }
 {
     let frames = has_frames(&loaded.object, section as usize);
-    let symbol = symbol_of(loaded, number, j as usize);
-    symbol_meant(parts, frames, &symbol)
+    let symbol = symbol_of(loaded, number, entry.symbol() as usize);
+    symbol_meant(parts, frames, &symbol, added(entry))
 }
 
 /// What a relocation of object `number` asks of its field, given the thread pointer.
@@ -82,7 +113,7 @@ pub fn asked_of<'a>(
         (given parts.now (relocation_at number (loaded_view loaded.now) relocation.now)) }
 {
     let entry = relocation.entry;
-    let found = meant_at(parts, number, loaded, relocation.section, entry.symbol());
+    let found = meant_at(parts, number, loaded, relocation.section, &entry);
     Asked {
         value: found.value,
         addend: entry.r_addend,

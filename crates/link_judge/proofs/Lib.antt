@@ -1,2 +1,3 @@
+pub mod MergedLaws
 pub mod Requirements
 pub mod Starts

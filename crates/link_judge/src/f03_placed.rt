@@ -140,8 +140,7 @@ fn has_right_runs(
     requires { AreRunPairs (sections_of placed.now) pairs.now }
     ensures { IfOk result (λ b. IsTrue b ↔ AreRuns placed.now) }
 {
-    let notes = &placed.claim().certificate.notes;
-    let made = things_of(alloc, placed.image(), notes, &[])?;
+    let made = things_of(alloc, placed.image(), placed.filled(), &[])?;
     are_runs_right(alloc, pairs, &made, placed.placed())
 }
 

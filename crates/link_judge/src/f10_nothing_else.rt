@@ -1,19 +1,22 @@
 //! F10: memory has nothing else: the linker's own notes are right, no slot is behind the end of all, and gaps have fill.
-ghost use Rattle.std.specs.Prelude.{◌↔◌, IfOk, IsTrue};
+ghost use Rattle.std.specs.Prelude.{◌≡◌, ◌↔◌, IfOk, IsTrue};
 ghost use Rattle.judge_model.specs.Links.{sections_of};
 ghost use Rattle.judge_model.specs.Notes.{AreNotesRight};
 ghost use Rattle.judge_model.specs.Fill.{IsFilled};
+ghost use Rattle.judge_model.specs.Placed.{explained_things};
 ghost use Rattle.judge_model.specs.RightForeign.{Holds};
 ghost use Rattle.judge_model.specs.declared.judgement.Requirement.TheVariants as requirement;
 ghost use Rattle.link_fields.specs.Parts.{AreTaken};
 ghost use Rattle.run_judge.specs.Pairs.{AreRunPairs};
 
+use elf_model::Thing;
 use gap_judge::are_gaps_filled;
-use judge_stages::{BoundClaim, PlacedClaim};
+use judge_stages::{BoundClaim, PlacedClaim, merged_stretches};
 use link_fields::slots_of;
 use memory_judge::Taken;
 use name_judge::do_bounds_spare_slots;
 use note_judge::are_notes_right;
+use place_judge::things_of;
 use run_judge::{RunPair, run_gaps};
 use std::alloc::{AllocError, Global};
 
@@ -27,7 +30,17 @@ fn has_right_notes(placed: &PlacedClaim<'_, '_>) -> bool
     are_notes_right(placed.image(), objects, notes, claim.wider.features)
 }
 
-/// Whether the names for where zeros begin and for the end of all spare the slots, and gaps have fill, given where no slot may be, and the neighbours of runs.
+/// What the bytes of memory are of, beside slots: headers, notes, merged strings and constants, sections and common blocks.
+fn explained_things(alloc: Global, placed: &PlacedClaim<'_, '_>) -> Result<Vec<Thing>, AllocError>
+    ensures { IfOk result (λ v. v.items ≡ explained_things placed.now) }
+{
+    let certificate = placed.claim().certificate;
+    let stretches = merged_stretches(alloc, &certificate.notes, &certificate.merged)?;
+    things_of(alloc, placed.image(), &stretches, placed.placed())
+}
+
+/// Whether the names for where zeros begin and for the end of all spare the slots, and gaps have fill, given where no slot may be, and
+/// the neighbours of runs.
 fn is_filled(
     alloc: Global,
     bound: &BoundClaim<'_, '_, '_>,
@@ -44,7 +57,8 @@ fn is_filled(
         return Ok(false);
     }
     let gaps = run_gaps(alloc, pairs)?;
-    if !are_gaps_filled(alloc, placed.image(), placed.things(), &slots, &gaps)? {
+    let things = explained_things(alloc, placed)?;
+    if !are_gaps_filled(alloc, placed.image(), &things, &slots, &gaps)? {
         return Ok(false);
     }
     Ok(true)

@@ -29,7 +29,7 @@ use foreign_words::Spoken;
 use input_judge::has_no_frame_table;
 use judge_model::{Certificate, Requirement};
 use judge_stages::{BoundClaim, Claim, LoadedClaim, PlacedClaim, borrowed_commons, plain_pieces};
-use link_fields::Addresses;
+use link_fields::{Addresses, MergedLines};
 use memory_judge::Taken;
 use order_judge::{OrderFault, load_in_order};
 use place_judge::is_in_order;
@@ -219,15 +219,17 @@ fn judge_placed(
     seed: Option<NameSeed>,
 ) -> Result<Judgement, AllocError>
     requires pairs { AreRunPairs (sections_of placed.now) pairs.now }
+    requires script { placed.now.plan.script ≡ None }
     requires judged { IsJudged placed.now }
     requires before { HoldsBefore which.F4 placed.now }
     ensures { IfOk result (λ j. Judges j placed.now) }
 {
     let outputs = Outputs::new(alloc, placed.pieces())?;
     let addresses = Addresses::new(alloc, placed.placed())?;
+    let merged = MergedLines::new(&placed.claim().certificate.merged);
     let things = taken_of(alloc, placed.things(), pairs)?;
     let taken = Taken::new(alloc, &things)?;
-    let bound = BoundClaim::new(placed, &outputs, &addresses);
+    let bound = BoundClaim::new(placed, &outputs, &addresses, &merged);
     judge_names(alloc, &bound, &taken, pairs, seed)
 }
 
@@ -241,6 +243,7 @@ fn judge_names(
 ) -> Result<Judgement, AllocError>
     requires taken { AreTaken bound.now taken.now }
     requires pairs { AreRunPairs (sections_of bound.now) pairs.now }
+    requires script { bound.now.plan.script ≡ None }
     requires judged { IsJudged bound.now }
     requires before { HoldsBefore which.F4 bound.now }
     ensures { IfOk result (λ j. Judges j bound.now) }

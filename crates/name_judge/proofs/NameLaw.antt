@@ -1,6 +1,6 @@
 -- The names of a link are right by its addresses exactly where they are right.
 use Rattle.std.proofs.Common.{◌≡◌, ◌∙◌, ◌⊎◌, inl, inr, ℕ, ◌+◌, ◌<◌, ◌≤◌, List, [], ◌∷◌, Option, None, Some, subst, sym}
-use Rattle.std.specs.Prelude.{◌↔◌, All, IfSome, codes, unwrap_or}
+use Rattle.std.specs.Prelude.{◌++◌, ◌↔◌, All, IfSome, codes, unwrap_or}
 use Rattle.std.specs.Borrow.{Bor}
 use Rattle.std.specs.BTreeMap.{BTreeMap}
 use Rattle.std.proofs.lemmas.List.Elements.{All-cons, All-head, All-nil, All-tail, All-weaker}
@@ -19,7 +19,7 @@ use Rattle.judge_model.specs.Links.{ForeignLink, placed_of}
 use Rattle.judge_model.specs.Memory.{IsInReach}
 use Rattle.judge_model.specs.Names.{AreNamesRight, IsAt, IsBoundAt, IsBoundRight, IsCodeEnd, IsDataEnd, IsEnd, IsImageEnd, IsPairRight, IsZeroStart, EndsSegment, bound_of, pair, pairs, is_small_data, start_of_output}
 use Rattle.judge_model.specs.Placed.{things_of}
-use Rattle.judge_model.specs.declared.certificate.NoteLine.{NoteLine}
+use Rattle.judge_model.specs.declared.certificate.StretchLine.{StretchLine}
 use Rattle.link_fields.specs.Parts.{Parts, parts_of}
 use Rattle.name_judge.specs.Bounds.{AreMarks, AreNamesBy, ArePairsOne, BeginsAt, CodeEndsAt, DataEndsAt, EndsAt, IsBoundBy, IsEndOfAll, IsNoEnd, IsPairOne, IsReached, IsRowRight, SpanEnds, SpanStarts, ZerosStart}
 use Rattle.name_judge.specs.Clear.{EndsBy, IsBeside, IsLastIn, IsNextIn}
@@ -38,7 +38,7 @@ if_some P Q None both = (λ h. h, λ h. h)
 if_some P Q (Some x) both = both x
 
 module _ (l : ForeignLink) where
-  module _ (m : Marks) (marks : AreMarks (loads l.image) (placed_of l) (things_of l) l.certificate.notes m) where
+  module _ (m : Marks) (marks : AreMarks (loads l.image) (placed_of l) (things_of l) (l.certificate.notes ++ l.certificate.areas) m) where
     reach_to : (v : ℕ) → IsReached (loads l.image) m v → IsInReach (loads l.image) v
     reach_to v r = record { low = r.low; high = subst (λ (n : ℕ). v ≤ n) marks.limit r.high }
 
@@ -150,15 +150,15 @@ module _ (l : ForeignLink) where
     all_end v = (
       λ h. record {
         behind = subst (λ (n : ℕ). n ≤ v) marks.image_end h.behind;
-        notes =
-            All-weaker (EndsBy v) (λ n. n.address + n.size ≤ v) (λ n e. e.end) l.certificate.notes ((marks.notes_end.told v).0 h.notes);
+        filled =
+            All-weaker (EndsBy v) (λ n. n.address + n.size ≤ v) (λ n e. e.end) (l.certificate.notes ++ l.certificate.areas) ((marks.filled_end.told v).0 h.filled);
         near = subst (λ (n : ℕ). v ≤ n) marks.limit h.near;
       },
       λ h. record {
         behind = subst (λ (n : ℕ). n ≤ v) (sym marks.image_end) h.behind;
-        notes =
-            (marks.notes_end.told v).1
-            (All-weaker (λ n. n.address + n.size ≤ v) (EndsBy v) (λ n e. record { end = e }) l.certificate.notes h.notes);
+        filled =
+            (marks.filled_end.told v).1
+            (All-weaker (λ n. n.address + n.size ≤ v) (EndsBy v) (λ n e. record { end = e }) (l.certificate.notes ++ l.certificate.areas) h.filled);
         near = subst (λ (n : ℕ). v ≤ n) (sym marks.limit) h.near;
       },
     )
@@ -239,13 +239,13 @@ module _ (l : ForeignLink) where
 
   -- by what the code has of a link
   pub names_by :
-      (p : Parts) (ts : List Thing) (ns : List NoteLine) (m : Marks) (spans : BTreeMap (Bor (List ℕ)) Span) →
-      parts_of l ≡ p → things_of l ≡ ts → l.certificate.notes ≡ ns → AreMarks (loads p.image) p.placed ts ns m → AreSpans p.placed spans →
+      (p : Parts) (ts : List Thing) (ns : List StretchLine) (m : Marks) (spans : BTreeMap (Bor (List ℕ)) Span) →
+      parts_of l ≡ p → things_of l ≡ ts → l.certificate.notes ++ l.certificate.areas ≡ ns → AreMarks (loads p.image) p.placed ts ns m → AreSpans p.placed spans →
       AreNamesBy p m spans ↔ AreNamesRight l
   names_by p ts ns m spans parts things notes marks are =
       let seen =
-      subst (λ (q : Parts). AreMarks (loads q.image) q.placed (things_of l) l.certificate.notes m) (sym parts)
-      (subst (λ (n : List NoteLine). AreMarks (loads p.image) p.placed (things_of l) n m) (sym notes)
+      subst (λ (q : Parts). AreMarks (loads q.image) q.placed (things_of l) (l.certificate.notes ++ l.certificate.areas) m) (sym parts)
+      (subst (λ (n : List StretchLine). AreMarks (loads p.image) p.placed (things_of l) n m) (sym notes)
       (subst (λ (t : List Thing). AreMarks (loads p.image) p.placed t ns m) (sym things) marks)) in
       let told = subst (λ (q : Parts). AreSpans q.placed spans) (sym parts) are in
       subst (λ (q : Parts). AreNamesBy q m spans ↔ AreNamesRight l) parts (own m seen spans told)

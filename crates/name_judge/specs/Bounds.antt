@@ -17,13 +17,13 @@ use Rattle.check_link.specs.declared.bounds.Span.{Span}
 use Rattle.judge_model.specs.Certificates.{NameRow, value_of_name}
 use Rattle.judge_model.specs.Memory.{address_limit}
 use Rattle.judge_model.specs.Names.{EndsSegment, HasPages, is_small_data, is_some_small_data, is_some_zeros}
-use Rattle.judge_model.specs.declared.certificate.NoteLine.{NoteLine}
+use Rattle.judge_model.specs.declared.certificate.StretchLine.{StretchLine}
 use Rattle.link_fields.specs.Parts.{Parts, bound_of}
-use Rattle.name_judge.specs.Clear.{IsEndOfNotes, IsFrom, IsLastIn, IsNextIn, IsUpTo}
+use Rattle.name_judge.specs.Clear.{IsEndOfStretches, IsFrom, IsLastIn, IsNextIn, IsUpTo}
 use Rattle.name_judge.specs.declared.marks.Marks.{Marks}
 
 -- the addresses of a link by which names are judged
-pub record AreMarks (hs : List ProgramHeader) (qs : List Placed) (ts : List Thing) (ns : List NoteLine) (m : Marks) : Type 0 where
+pub record AreMarks (hs : List ProgramHeader) (qs : List Placed) (ts : List Thing) (ns : List StretchLine) (m : Marks) : Type 0 where
   pub code_end : m.code_end ≡ end_of_pieces is_code_piece qs
   pub code_next : IsNextIn ts m.code_end m.code_next
   pub data_end : m.data_end ≡ end_of_pieces is_file_data qs
@@ -35,7 +35,7 @@ pub record AreMarks (hs : List ProgramHeader) (qs : List Placed) (ts : List Thin
   pub empty_start : m.empty_start ≡ start_of_pieces is_zero_data qs
   pub some_end : m.some_end ≡ end_of_pieces is_some_small_data qs
   pub image_end : m.image_end ≡ end_of_pieces is_loaded_piece qs
-  pub notes_end : IsEndOfNotes ns m.notes_end
+  pub filled_end : IsEndOfStretches ns m.filled_end
   pub limit : m.limit ≡ address_limit hs
 
 -- an address is among those of the segments, or not far behind them
@@ -96,7 +96,7 @@ ZerosStart hs m (Some start) v = BeginsAt hs start m.zero_last v
 
 pub record IsEndOfAll (m : Marks) (v : ℕ) : Type 0 where
   pub behind : m.image_end ≤ v
-  pub notes : m.notes_end ≤ v
+  pub filled : m.filled_end ≤ v
   pub near : v ≤ m.limit
 
 -- where the span of an output name begins and ends; at no address or near without one

@@ -4,7 +4,7 @@ use Rattle.elf_model.specs.Link.Placement.{Covers}
 use Rattle.elf_model.specs.declared.records.ProgramHeader.{ProgramHeader}
 use Rattle.elf_model.specs.declared.thing.Thing.{Thing}
 use Rattle.judge_model.specs.Fill.{IsBeforeZeros}
-use Rattle.judge_model.specs.declared.certificate.NoteLine.{NoteLine}
+use Rattle.judge_model.specs.declared.certificate.StretchLine.{StretchLine}
 
 -- a thing covers no address from one on and below another one
 pub record IsBeside (from to : ℕ) (t : Thing) : Type 0 where
@@ -24,11 +24,11 @@ pub record IsNextIn (ts : List Thing) (from : ℕ) (next : Option ℕ) : Type 0 
 pub record IsLastIn (ts : List Thing) (to : ℕ) (last : Option ℕ) : Type 0 where
   pub told : (from : ℕ) → IsFrom from last ↔ All (IsBeside from to) ts
 
--- a note ends at or below an address; the greatest end of notes
-pub record EndsBy (v : ℕ) (n : NoteLine) : Type 0 where
+-- a stretch ends at or below an address; the greatest end of stretches
+pub record EndsBy (v : ℕ) (n : StretchLine) : Type 0 where
   pub end : n.address + n.size ≤ v
 
-pub record IsEndOfNotes (ns : List NoteLine) (end : ℕ) : Type 0 where
+pub record IsEndOfStretches (ns : List StretchLine) (end : ℕ) : Type 0 where
   pub told : (v : ℕ) → (end ≤ v) ↔ All (EndsBy v) ns
 
 -- a segment ends where addresses can

@@ -193,7 +193,7 @@ fn is_end_of_all(marks: &Marks, value: u64) -> bool
     if value < marks.image_end || marks.limit < value {
         return false;
     }
-    marks.notes_end <= value as u128
+    marks.filled_end <= value as u128
 }
 
 fn span_starts(image: &ForeignImage<'_>, marks: &Marks, span: Option<Span>, value: u64) -> bool

@@ -8,14 +8,14 @@ ghost use Rattle.check_link.specs.Views.{piece_view, placed_view, placed_views};
 ghost use Rattle.judge_model.specs.Memory.{address_limit, memory_end};
 ghost use Rattle.judge_model.specs.Names.{is_small_data};
 ghost use Rattle.name_judge.specs.Bounds.{AreMarks};
-ghost use Rattle.name_judge.specs.Clear.{IsEndOfNotes, IsLastIn, IsLowEnd};
+ghost use Rattle.name_judge.specs.Clear.{IsEndOfStretches, IsLastIn, IsLowEnd};
 
 use crate::gaps::{last_in, next_in};
 use crate::nonempty::{end_of_data, start_of_zeros};
 use check_link::{Part, Piece, Placed, end_of, start_of};
 use elf_model::{ProgramHeader, Thing};
 use foreign_image::ForeignImage;
-use judge_model::NoteLine;
+use judge_model::StretchLine;
 
 /// How far behind the last segment names may be: twice the largest page that linkers align to.
 const MARGIN: u64 = 2 * (1 << 21);
@@ -25,7 +25,7 @@ const SHF_X86_64_LARGE: u64 = 0x1000_0000;
 
 /// The greatest ends of code, of data in the file and of what isn't large of these, and the least address behind each that
 /// anything covers; where zeros begin, and the end of what comes before; the least address of sections of zeros, empty ones too; the
-/// greatest end of data that aren't empty; the greatest ends of all and of the linker's notes; and the greatest address that a
+/// greatest end of data that aren't empty; the greatest ends of all and of what the linker filled; and the greatest address that a
 /// name may have.
 #[derive(Clone, Copy, Debug)]
 pub struct Marks {
@@ -40,17 +40,17 @@ pub struct Marks {
     pub empty_start: Option<u64>,
     pub some_end: u64,
     pub image_end: u64,
-    pub notes_end: u128,
+    pub filled_end: u128,
     pub limit: u64,
 }
 
-/// The greatest end of notes; 0 without any.
-fn end_of_notes(notes: &[NoteLine]) -> u128
-    ensures { IsEndOfNotes notes.now result }
+/// The greatest end of stretches; 0 without any.
+fn end_of_stretches(stretches: &[StretchLine]) -> u128
+    ensures { IsEndOfStretches stretches.now result }
 {
     let mut end = 0u128;
-    for note in notes {
-        end = end.max(note.address as u128 + note.size as u128);
+    for stretch in stretches {
+        end = end.max(stretch.address as u128 + stretch.size as u128);
     }
     end
 }
@@ -125,15 +125,15 @@ fn limit_of(image: &ForeignImage<'_>) -> u64
     end_of_memory(image.segments()) + MARGIN
 }
 
-/// The addresses of a link's pieces, of all that takes up memory, and of the linker's notes.
+/// The addresses of a link's pieces, of all that takes up memory, and of what the linker filled.
 pub fn marks_of(
     image: &ForeignImage<'_>,
     placed: &[Placed<'_>],
     things: &[Thing],
-    notes: &[NoteLine],
+    filled: &[StretchLine],
 ) -> Marks
     requires { AreInLimit (placed_views placed.now) }
-    ensures { AreMarks (loads image.now) (placed_views placed.now) things.now notes.now result }
+    ensures { AreMarks (loads image.now) (placed_views placed.now) things.now filled.now result }
 {
     let code_end = end_of(Part::Code, placed);
     let data_end = end_of(Part::FileData, placed);
@@ -151,7 +151,7 @@ pub fn marks_of(
         empty_start: start_of(Part::Zeros, placed),
         some_end: end_of_data(placed),
         image_end: end_of(Part::Loaded, placed),
-        notes_end: end_of_notes(notes),
+        filled_end: end_of_stretches(filled),
         limit: limit_of(image),
     }
 }

@@ -1,10 +1,9 @@
 //! Whether the names that a linker defines have values that they may have.
-ghost use Rattle.std.specs.Prelude.{◌≡◌, ◌↔◌, IfOk, IsTrue};
+ghost use Rattle.std.specs.Prelude.{◌≡◌, ◌↔◌, ◌++◌, IfOk, IsTrue};
 ghost use Rattle.check_link.specs.PieceParts.{AreInLimit};
 ghost use Rattle.judge_model.specs.Links.{ForeignLink};
+ghost use Rattle.judge_model.specs.Names.{AreNamesRight};
 ghost use Rattle.judge_model.specs.Placed.{things_of};
-ghost use Rattle.judge_model.specs.RightForeign.{Holds};
-ghost use Rattle.judge_model.specs.declared.judgement.Requirement.TheVariants as requirement;
 ghost use Rattle.link_fields.specs.Parts.{parts_of};
 ghost use Rattle.name_judge.specs.Bounds.{AreNamesBy, ArePairsOne};
 
@@ -12,7 +11,7 @@ use crate::marks::{Marks, marks_of};
 use crate::rows::{are_rows_right, is_pair_one};
 use check_link::{Span, spans_of};
 use elf_model::Thing;
-use judge_model::NoteLine;
+use judge_model::StretchLine;
 use link_fields::LinkParts;
 use std::alloc::{AllocError, Global};
 use std::collections::BTreeMap;
@@ -46,7 +45,7 @@ fn are_names_by(parts: &LinkParts<'_, '_, '_>, marks: &Marks, spans: &BTreeMap<&
 }
 
 /// Whether the names that a linker defines have values that they may have, given a link's parts, all that takes up memory
-/// (headers, notes, sections and common blocks), and the linker's notes.
+/// (headers, notes, areas, sections and common blocks), and what of these the linker filled: notes and areas.
 ///
 /// # Errors
 ///
@@ -55,14 +54,15 @@ pub fn are_names_right(
     alloc: Global,
     parts: &LinkParts<'_, '_, '_>,
     things: &[Thing],
-    notes: &[NoteLine],
+    filled: &[StretchLine],
 ) -> Result<bool, AllocError>
     requires { AreInLimit parts.now.placed }
     ensures { (l : ForeignLink) → parts_of l ≡ parts.now → things_of l ≡ things.now
-        → l.certificate.notes ≡ notes.now → IfOk result (λ b. IsTrue b ↔ Holds requirement.F4 l) }
+        → l.certificate.notes ++ l.certificate.areas ≡ filled.now
+        → IfOk result (λ b. IsTrue b ↔ AreNamesRight l) }
 {
     let placed = parts.addresses.placed();
     let spans = spans_of(alloc, placed)?;
-    let marks = marks_of(parts.image, placed, things, notes);
+    let marks = marks_of(parts.image, placed, things, filled);
     Ok(are_names_by(parts, &marks, &spans))
 }

@@ -5,15 +5,15 @@ use Rattle.std.proofs.lemmas.List.Elements.{All-weaker}
 use Rattle.elf_model.specs.Link.Loading.{LoadedObject}
 use Rattle.judge_model.specs.Links.{ForeignLink, objects_of}
 use Rattle.judge_model.specs.Notes.{AreNotesRight, IsBuildId, IsNoteRight, IsPropertyNote, allowed_bits, common_bits}
-use Rattle.judge_model.specs.declared.certificate.NoteLine.{NoteLine}
+use Rattle.judge_model.specs.declared.certificate.StretchLine.{StretchLine}
 use Rattle.note_judge.specs.Notes.{AreNotesBy, IsNoteBy, IsOfLink, IsPropertyBy}
 
 module _ (l : ForeignLink) where
-  kind_of : (n : NoteLine) → IsBuildId l.image n ⊎ IsPropertyBy l.image (allowed_bits l) n → IsBuildId l.image n ⊎ IsPropertyNote l n
+  kind_of : (n : StretchLine) → IsBuildId l.image n ⊎ IsPropertyBy l.image (allowed_bits l) n → IsBuildId l.image n ⊎ IsPropertyNote l n
   kind_of n (inl id) = inl id
   kind_of n (inr p) = inr (record { bits = p.bits; allowed = p.few; size = p.size; holds = p.holds })
 
-  of_kind : (n : NoteLine) → IsBuildId l.image n ⊎ IsPropertyNote l n → IsBuildId l.image n ⊎ IsPropertyBy l.image (allowed_bits l) n
+  of_kind : (n : StretchLine) → IsBuildId l.image n ⊎ IsPropertyNote l n → IsBuildId l.image n ⊎ IsPropertyBy l.image (allowed_bits l) n
   of_kind n (inl id) = inl id
   of_kind n (inr p) = inr (record { bits = p.bits; few = p.allowed; size = p.size; holds = p.holds })
 
@@ -30,11 +30,11 @@ module _ (l : ForeignLink) where
   )
 
   -- by what the code has of a link
-  pub right_by : (image : List ℕ) (os : List LoadedObject) (notes : List NoteLine) (features : ℕ) → IsOfLink l image os notes features
+  pub right_by : (image : List ℕ) (os : List LoadedObject) (notes : List StretchLine) (features : ℕ) → IsOfLink l image os notes features
       → AreNotesBy image (bit_or (common_bits os) features) notes ↔ AreNotesRight l
   right_by image os notes features of =
       subst (λ (i : List ℕ). AreNotesBy i (bit_or (common_bits os) features) notes ↔ AreNotesRight l) of.image_is
       (subst (λ (o : List LoadedObject). AreNotesBy l.image (bit_or (common_bits o) features) notes ↔ AreNotesRight l) of.objects_are
-      (subst (λ (ns : List NoteLine). AreNotesBy l.image (bit_or (common_bits (objects_of l)) features) ns ↔ AreNotesRight l) of.notes_are
+      (subst (λ (ns : List StretchLine). AreNotesBy l.image (bit_or (common_bits (objects_of l)) features) ns ↔ AreNotesRight l) of.notes_are
       (subst (λ (f : ℕ). AreNotesBy l.image (bit_or (common_bits (objects_of l)) f) l.certificate.notes ↔ AreNotesRight l) of.features_are
       own_right)))

@@ -11,7 +11,7 @@ use Rattle.byteview.specs.Numbers.{le, le_bytes}
 use Rattle.elf_model.specs.Image.RightLink.{byte_at}
 use Rattle.judge_model.specs.Memory.{Holds}
 use Rattle.judge_model.specs.Notes.{IsBuildId, feature_1_and, note_bytes, nt_gnu_build_id, nt_gnu_property}
-use Rattle.judge_model.specs.declared.certificate.NoteLine.{NoteLine}
+use Rattle.judge_model.specs.declared.certificate.StretchLine.{StretchLine}
 use Rattle.memory_judge.proofs.NumberBytes.{four}
 use Rattle.note_judge.specs.Notes.{HoldsFew, HoldsFront, HoldsProperty, IsMapped, IsPropertyBy, property}
 
@@ -108,7 +108,7 @@ byte_or : (o : Option ℕ) → IsSome o → o ≡ Some (unwrap_or o 0)
 byte_or None some = absurd (cc)
 byte_or (Some b) some = refl
 
-module _ (image : List ℕ) (n : NoteLine) where
+module _ (image : List ℕ) (n : StretchLine) where
   described : ℕ → List ℕ
   described size = map (λ k. unwrap_or (byte_at image (n.address + k)) 0) (range_with_len 16 size)
 
@@ -172,7 +172,7 @@ module _ (image : List ℕ) (n : NoteLine) where
           ap is_some (ap (byte_at image) (omega (arith, more)) ∙ rest (k - 16) (let size = id.size in omega (arith, size, low, more)))
 
 -- A property note.
-module _ (image : List ℕ) (allowed : ℕ) (n : NoteLine) where
+module _ (image : List ℕ) (allowed : ℕ) (n : StretchLine) where
   length_property : (bits : ℕ) → length (property bits) ≡ 16
   length_property bits =
       let a = length-le_bytes 4 feature_1_and in

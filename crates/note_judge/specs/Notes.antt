@@ -7,11 +7,11 @@ use Rattle.judge_model.specs.Links.{ForeignLink, objects_of}
 use Rattle.judge_model.specs.Memory.{Holds}
 use Rattle.judge_model.specs.Notes.{IsBuildId, LiesInNotes, bits_of_note, feature_1_and, is_note_header, is_property_section, note_bytes, nt_gnu_property}
 use Rattle.elf_model.specs.declared.records.ProgramHeader.{ProgramHeader}
-use Rattle.judge_model.specs.declared.certificate.NoteLine.{NoteLine}
+use Rattle.judge_model.specs.declared.certificate.StretchLine.{StretchLine}
 use Rattle.byteview.specs.Numbers.{le_bytes}
 
 -- a header is one of notes, and a note lies where it says
-abbrev pub LiesIn : NoteLine → ProgramHeader → Type 0
+abbrev pub LiesIn : StretchLine → ProgramHeader → Type 0
 LiesIn n h = (is_note_header h ≡ true) × ((h.p_vaddr ≤ n.address) × (n.address + n.size ≤ h.p_vaddr + h.p_memsz))
 
 -- memory holds what a note of GNU begins with, in front of its description: the sizes of its name and of the description, its
@@ -42,23 +42,23 @@ pub record HoldsFew (image : List ℕ) (at allowed : ℕ) : Type 0 where
   pub holds : Holds image (at + 24) (le_bytes 4 bits)
 
 -- a property note with no bits but those allowed
-pub record IsPropertyBy (image : List ℕ) (allowed : ℕ) (n : NoteLine) : Type 0 where
+pub record IsPropertyBy (image : List ℕ) (allowed : ℕ) (n : StretchLine) : Type 0 where
   pub bits : ℕ
   pub few : bit_and bits allowed ≡ bits
   pub size : n.size ≡ 32
   pub holds : Holds image n.address (note_bytes nt_gnu_property (property bits))
 
-pub record IsNoteBy (image : List ℕ) (allowed : ℕ) (n : NoteLine) : Type 0 where
+pub record IsNoteBy (image : List ℕ) (allowed : ℕ) (n : StretchLine) : Type 0 where
   pub aligned : n.address % 4 ≡ 0
   pub inside : LiesInNotes image n
   pub kind : IsBuildId image n ⊎ IsPropertyBy image allowed n
 
-pub record AreNotesBy (image : List ℕ) (allowed : ℕ) (notes : List NoteLine) : Type 0 where
+pub record AreNotesBy (image : List ℕ) (allowed : ℕ) (notes : List StretchLine) : Type 0 where
   pub each : All (IsNoteBy image allowed) notes
   pub two : length notes ≤ 2
 
 -- these are a link's image, objects, notes and the features for which its words ask
-pub record IsOfLink (l : ForeignLink) (image : List ℕ) (os : List LoadedObject) (notes : List NoteLine) (features : ℕ) : Type 0 where
+pub record IsOfLink (l : ForeignLink) (image : List ℕ) (os : List LoadedObject) (notes : List StretchLine) (features : ℕ) : Type 0 where
   pub image_is : l.image ≡ image
   pub objects_are : objects_of l ≡ os
   pub notes_are : l.certificate.notes ≡ notes

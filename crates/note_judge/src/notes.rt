@@ -11,7 +11,7 @@ use crate::features::common_bits;
 use check_load::Loaded;
 use elf_model::ProgramHeader;
 use foreign_image::ForeignImage;
-use judge_model::NoteLine;
+use judge_model::StretchLine;
 use memory_judge::{holds_number, number_at};
 
 const PT_NOTE: u32 = 4;
@@ -37,7 +37,7 @@ const MOST_NOTES: usize = 2;
 const GNU: u64 = 0x0055_4e47;
 
 /// Whether a header is one of notes, and a note lies where it says.
-fn lies_in(h: &ProgramHeader, n: &NoteLine) -> bool
+fn lies_in(h: &ProgramHeader, n: &StretchLine) -> bool
     ensures { IsTrue result ↔ LiesIn n.now h.now }
 {
     if h.p_type != PT_NOTE && h.p_type != PT_GNU_PROPERTY {
@@ -51,7 +51,7 @@ fn lies_in(h: &ProgramHeader, n: &NoteLine) -> bool
 }
 
 /// Whether a note lies where a header of notes says.
-fn is_inside(headers: &[ProgramHeader], n: &NoteLine) -> bool
+fn is_inside(headers: &[ProgramHeader], n: &StretchLine) -> bool
     ensures { IsTrue result ↔ Any (LiesIn n.now) headers.now }
 {
     headers.iter().any(|h| lies_in(h, n))
@@ -91,7 +91,7 @@ fn is_mapped(image: &ForeignImage<'_>, at: u64, size: u64) -> bool
 }
 
 /// Whether a note is a build id.
-fn is_build_id(image: &ForeignImage<'_>, n: &NoteLine) -> bool
+fn is_build_id(image: &ForeignImage<'_>, n: &StretchLine) -> bool
     ensures { IsTrue result ↔ IsBuildId image.now n.now }
 {
     if n.size < FRONT_SIZE || n.size > MOST_OF_ID {
@@ -123,7 +123,7 @@ fn holds_few(image: &ForeignImage<'_>, at: u64, allowed: u64) -> bool
 }
 
 /// Whether a note is a property note with no bits but those allowed.
-fn is_property_note(image: &ForeignImage<'_>, allowed: u64, n: &NoteLine) -> bool
+fn is_property_note(image: &ForeignImage<'_>, allowed: u64, n: &StretchLine) -> bool
     ensures { IsTrue result ↔ IsPropertyBy image.now allowed n.now }
 {
     if n.size != 32 {
@@ -139,7 +139,7 @@ fn is_property_note(image: &ForeignImage<'_>, allowed: u64, n: &NoteLine) -> boo
 }
 
 /// Whether a note is right, where a property note may have some bits.
-fn is_note_right(image: &ForeignImage<'_>, allowed: u64, n: &NoteLine) -> bool
+fn is_note_right(image: &ForeignImage<'_>, allowed: u64, n: &StretchLine) -> bool
     ensures { IsTrue result ↔ IsNoteBy image.now allowed n.now }
 {
     if n.address % 4 != 0 {
@@ -152,7 +152,7 @@ fn is_note_right(image: &ForeignImage<'_>, allowed: u64, n: &NoteLine) -> bool
 }
 
 /// Whether each of some notes is right.
-fn is_each_right(image: &ForeignImage<'_>, allowed: u64, notes: &[NoteLine]) -> bool
+fn is_each_right(image: &ForeignImage<'_>, allowed: u64, notes: &[StretchLine]) -> bool
     ensures { IsTrue result ↔ All (IsNoteBy image.now allowed) notes.now }
 {
     for n in notes {
@@ -164,7 +164,7 @@ fn is_each_right(image: &ForeignImage<'_>, allowed: u64, notes: &[NoteLine]) -> 
 }
 
 /// Whether notes are right, where a property note may have some bits: each is, and there are at most two.
-fn are_right_by(image: &ForeignImage<'_>, allowed: u64, notes: &[NoteLine]) -> bool
+fn are_right_by(image: &ForeignImage<'_>, allowed: u64, notes: &[StretchLine]) -> bool
     ensures { IsTrue result ↔ AreNotesBy image.now allowed notes.now }
 {
     if notes.len() > MOST_NOTES {
@@ -178,7 +178,7 @@ fn are_right_by(image: &ForeignImage<'_>, allowed: u64, notes: &[NoteLine]) -> b
 pub fn are_notes_right(
     image: &ForeignImage<'_>,
     objects: &[Loaded<'_>],
-    notes: &[NoteLine],
+    notes: &[StretchLine],
     features: u64,
 ) -> bool
     ensures { (l : ForeignLink)

@@ -14,7 +14,7 @@ use Rattle.std.specs.BTreeMap.{BTreeMap}
 use Rattle.check_link.specs.ByName.{found_in}
 use Rattle.check_link.specs.Outputs.{start_of}
 use Rattle.check_link.specs.declared.bounds.Span.{Span}
-use Rattle.judge_model.specs.Certificates.{CertificateRecord, NameRowBefore}
+use Rattle.judge_model.specs.Certificates.{CertificateRecord, MergedBefore, NameRowBefore, StretchBefore}
 use Rattle.judge_model.specs.Placed.{HasPlace, needed_rights}
 use Rattle.judge_model.specs.Plans as plans
 use Rattle.place_judge.specs.declared.starts.Start.{Start}
@@ -51,10 +51,16 @@ abbrev pub IsCommonIn : List CommonRow → List LoadedObject → Bool → List �
 IsCommonIn rows objects collects name =
     HasCommonLine rows objects name ⊎ ((collects ≡ true) × (find (is_common_row_of name) rows ≡ None))
 
--- the lines of sections come by object and section, those of common blocks and of names by name
+-- the lines of sections come by object and section, those of notes and areas by address, those of merged strings and constants by
+-- object, section and offset, those of common blocks and of names by name
 pub record AreSectionsInOrder (c : CertificateRecord) : Type 0 where
   pub drops : Ascends DropBefore c.drops
   pub places : Ascends PlaceBefore c.places
+
+pub record AreStretchesInOrder (c : CertificateRecord) : Type 0 where
+  pub notes : Ascends StretchBefore c.notes
+  pub areas : Ascends StretchBefore c.areas
+  pub merged : Ascends MergedBefore c.merged
 
 pub record AreTextsInOrder (c : CertificateRecord) : Type 0 where
   pub commons : Ascends CommonBefore c.commons

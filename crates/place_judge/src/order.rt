@@ -3,12 +3,12 @@ ghost use Rattle.std.specs.Prelude.{◌+◌, ◌<◌, ◌↔◌, ℕ, IsTrue, le
 ghost use Rattle.elf_model.specs.Image.MapRecord.{CommonRow, PlaceRow, common_row, place_row};
 ghost use Rattle.elf_model.specs.Image.MapText.{Ascends, CommonBefore, DropBefore, NameBefore, PlaceBefore};
 ghost use Rattle.elf_model.specs.declared.link_map.DropLine.{DropLine};
-ghost use Rattle.judge_model.specs.Certificates.{IsInOrder, NameRowBefore, NoteBefore, certificate_of, name_row};
-ghost use Rattle.judge_model.specs.declared.certificate.NoteLine.{NoteLine};
-ghost use Rattle.place_judge.specs.Places.{AreSectionsInOrder, AreTextsInOrder};
+ghost use Rattle.judge_model.specs.Certificates.{IsInOrder, MergedBefore, NameRowBefore, StretchBefore, certificate_of, name_row};
+ghost use Rattle.judge_model.specs.declared.certificate.StretchLine.{StretchLine};
+ghost use Rattle.place_judge.specs.Places.{AreSectionsInOrder, AreStretchesInOrder, AreTextsInOrder};
 
 use elf_model::{CommonLine, DropLine, PlaceLine};
-use judge_model::{Certificate, NameLine, NoteLine};
+use judge_model::{Certificate, MergedLine, NameLine, StretchLine};
 use std::cmp::Ordering;
 
 /// Whether a name comes before another one, byte by byte.
@@ -60,18 +60,18 @@ fn are_commons_rising(lines: &[CommonLine]) -> bool
         .all(|pair| is_common_before(&pair[0], &pair[1]))
 }
 
-fn is_note_before(p: &NoteLine, q: &NoteLine) -> bool
-    ensures { IsTrue result ↔ NoteBefore p.now q.now }
+fn is_stretch_before(p: &StretchLine, q: &StretchLine) -> bool
+    ensures { IsTrue result ↔ StretchBefore p.now q.now }
 {
     p.address <= q.address && p.size <= q.address - p.address
 }
 
-fn are_notes_rising(lines: &[NoteLine]) -> bool
-    ensures { IsTrue result ↔ Ascends NoteBefore lines.now }
+fn are_stretches_rising(lines: &[StretchLine]) -> bool
+    ensures { IsTrue result ↔ Ascends StretchBefore lines.now }
 {
     lines
         .windows(2)
-        .all(|pair| is_note_before(&pair[0], &pair[1]))
+        .all(|pair| is_stretch_before(&pair[0], &pair[1]))
 }
 
 fn is_value_before(p: &NameLine, q: &NameLine) -> bool
@@ -88,6 +88,26 @@ fn are_names_rising(lines: &[NameLine]) -> bool
         .all(|pair| is_value_before(&pair[0], &pair[1]))
 }
 
+fn is_merged_before(p: &MergedLine, q: &MergedLine) -> bool
+    ensures { IsTrue result ↔ MergedBefore p.now q.now }
+{
+    if p.object != q.object {
+        return p.object < q.object;
+    }
+    if p.section != q.section {
+        return p.section < q.section;
+    }
+    p.offset <= q.offset && p.size <= q.offset - p.offset
+}
+
+fn are_merged_rising(lines: &[MergedLine]) -> bool
+    ensures { IsTrue result ↔ Ascends MergedBefore lines.now }
+{
+    lines
+        .windows(2)
+        .all(|pair| is_merged_before(&pair[0], &pair[1]))
+}
+
 /// Whether the lines of sections come by object and section.
 fn are_sections_in_order(certificate: &Certificate) -> bool
     ensures { IsTrue result ↔ AreSectionsInOrder (certificate_of certificate.now) }
@@ -96,6 +116,19 @@ fn are_sections_in_order(certificate: &Certificate) -> bool
         return false;
     }
     are_places_rising(&certificate.places)
+}
+
+/// Whether notes and areas come by address, and merged strings and constants by object, section and offset.
+fn are_stretches_in_order(certificate: &Certificate) -> bool
+    ensures { IsTrue result ↔ AreStretchesInOrder (certificate_of certificate.now) }
+{
+    if !are_stretches_rising(&certificate.notes) {
+        return false;
+    }
+    if !are_stretches_rising(&certificate.areas) {
+        return false;
+    }
+    are_merged_rising(&certificate.merged)
 }
 
 /// Whether the lines of common blocks and of names come by name.
@@ -118,5 +151,5 @@ pub fn is_in_order(certificate: &Certificate) -> bool
     if !are_texts_in_order(certificate) {
         return false;
     }
-    are_notes_rising(&certificate.notes)
+    are_stretches_in_order(certificate)
 }

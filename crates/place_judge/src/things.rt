@@ -1,15 +1,15 @@
-//! What takes up memory: the headers of the image, the linker's notes, and all pieces.
+//! What takes up memory: the headers of the image, what the linker filled, and all pieces.
 ghost use Rattle.std.specs.Prelude.{◌≡◌, ◌*◌, ◌++◌, All, IfOk, OnOk, map, true};
 ghost use Rattle.elf_model.specs.Inputs.Records.{file_header};
 ghost use Rattle.elf_model.specs.Link.Placement.{thing_of};
 ghost use Rattle.check_link.specs.Views.{placed_views};
-ghost use Rattle.judge_model.specs.Placed.{has_part, header_things, mapped_parts, note_thing, part_in};
+ghost use Rattle.judge_model.specs.Placed.{has_part, header_things, mapped_parts, stretch_thing, part_in};
 ghost use Rattle.place_judge.specs.Places.{Fits};
 
 use check_link::{Placed, thing_of_placed};
 use elf_model::{ProgramHeader, Thing};
 use foreign_image::ForeignImage;
-use judge_model::NoteLine;
+use judge_model::StretchLine;
 use std::alloc::{AllocError, Global};
 
 /// Whether the file part of a segment has a stretch of the file.
@@ -56,24 +56,24 @@ fn add_parts(
     Ok(())
 }
 
-/// A note of the linker's.
-fn note_thing(note: &NoteLine) -> Thing
-    ensures { result ≡ note_thing note.now }
+/// What the linker filled.
+fn stretch_thing(stretch: &StretchLine) -> Thing
+    ensures { result ≡ stretch_thing stretch.now }
 {
     Thing {
-        at: note.address,
-        size: note.size,
+        at: stretch.address,
+        size: stretch.size,
         align: 4,
         rights: 4,
         in_file: true,
     }
 }
 
-fn add_notes(things: &mut Vec<Thing>, notes: &[NoteLine]) -> Result<(), AllocError>
-    ensures { OnOk result (things.new.items ≡ things.old.items ++ map note_thing notes.now) }
+fn add_stretches(things: &mut Vec<Thing>, stretches: &[StretchLine]) -> Result<(), AllocError>
+    ensures { OnOk result (things.new.items ≡ things.old.items ++ map stretch_thing stretches.now) }
 {
-    for note in notes {
-        things.push(note_thing(note))?;
+    for stretch in stretches {
+        things.push(stretch_thing(stretch))?;
     }
     Ok(())
 }
@@ -103,20 +103,20 @@ fn add_headers(things: &mut Vec<Thing>, image: &ForeignImage<'_>) -> Result<(), 
     )
 }
 
-/// All that takes up memory: the headers where segments have them, the linker's notes, and the pieces.
+/// All that takes up memory: the headers where segments have them, stretches that the linker filled, and the pieces.
 pub fn things_of(
     alloc: Global,
     image: &ForeignImage<'_>,
-    notes: &[NoteLine],
+    stretches: &[StretchLine],
     placed: &[Placed<'_>],
 ) -> Result<Vec<Thing>, AllocError>
     ensures { IfOk result (λ v. v.items
-        ≡ (header_things image.now ++ map note_thing notes.now)
+        ≡ (header_things image.now ++ map stretch_thing stretches.now)
         ++ map thing_of (placed_views placed.now)) }
 {
-    let mut things = Vec::with_capacity(alloc, placed.len().saturating_add(notes.len()))?;
+    let mut things = Vec::with_capacity(alloc, placed.len().saturating_add(stretches.len()))?;
     add_headers(&mut things, image)?;
-    add_notes(&mut things, notes)?;
+    add_stretches(&mut things, stretches)?;
     add_pieces(&mut things, placed)?;
     Ok(things)
 }

@@ -35,7 +35,7 @@ use Rattle.symbol_judge.specs.declared.wanted.Wanted.{Wanted}
 use Rattle.symbol_judge.proofs.ThereLaws.{any_weaker}
 use Rattle.symbol_judge.proofs.LocalLaws.{IsLocalOfIn, entry_of, symbol_of}
 
-value_is : (l : ForeignLink) (m : Meaning) → means.value_of l m ≡ words.value_of (placed_of l) l.certificate.names m
+value_is : (l : ForeignLink) (m : Meaning) → means.value_of l m ≡ words.value_of (placed_of l) l.certificate.merged l.certificate.names m
 value_is l (Symbol s) = refl
 value_is l (Common b) = refl
 value_is l (Linker name bound) = refl
@@ -141,12 +141,12 @@ module _ (l : ForeignLink) (e : entry.Symbol) where
   global_to : (o : Option Meaning) → IsSomeAnd (option_and_then (wanted_at (parts_of l)) o) (Fits hs e) → IsSomeAnd o (λ m. IsSomeAnd (means.value_of l m) (IsEntryOf l e m))
   global_to None never = never
   global_to (Some m) f =
-      subst (λ (u : Option ℕ). IsSomeAnd u (IsEntryOf l e m)) (sym (value_is l m)) (value_to m (words.value_of (placed_of l) l.certificate.names m) f)
+      subst (λ (u : Option ℕ). IsSomeAnd u (IsEntryOf l e m)) (sym (value_is l m)) (value_to m (words.value_of (placed_of l) l.certificate.merged l.certificate.names m) f)
 
   global_from : (o : Option Meaning) → IsSomeAnd o (λ m. IsSomeAnd (means.value_of l m) (IsEntryOf l e m)) → IsSomeAnd (option_and_then (wanted_at (parts_of l)) o) (Fits hs e)
   global_from None never = never
   global_from (Some m) i =
-      value_from m (words.value_of (placed_of l) l.certificate.names m) (subst (λ (u : Option ℕ). IsSomeAnd u (IsEntryOf l e m)) (value_is l m) i)
+      value_from m (words.value_of (placed_of l) l.certificate.merged l.certificate.names m) (subst (λ (u : Option ℕ). IsSomeAnd u (IsEntryOf l e m)) (value_is l m) i)
 
   -- an entry of a LOCAL symbol
   local_to : (name : List ℕ) (s : SymbolOf) → IsLocalOfIn (parts_of l) hs name e s → IsLocalOf l name e s

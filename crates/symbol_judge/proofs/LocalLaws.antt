@@ -49,7 +49,7 @@ pub record IsLocalOfIn (p : Parts) (hs : List SectionHeader) (name : List ℕ) (
   pub named : bytes_eq s.name name ≡ true
   pub defined : is_undefined s.entry ≡ false
   pub value : ℕ
-  pub value_is : symbol_value p.placed s ≡ Some value
+  pub value_is : symbol_value p.placed p.merged s ≡ Some value
   pub fits : Fits hs e (wanted_of p.objects p.placed (Symbol s) value)
 
 module _ (p : Parts) (names : List (List ℕ)) where
@@ -58,7 +58,7 @@ module _ (p : Parts) (names : List (List ℕ)) where
     local : is_local s ≡ true
     defined : is_undefined s.entry ≡ false
     value : ℕ
-    value_is : symbol_value p.placed s ≡ Some value
+    value_is : symbol_value p.placed p.merged s ≡ Some value
     number_is : position (bytes_eq s.name) names ≡ Some x.number
     is : x ≡ local_with x.number (wanted_of p.objects p.placed (Symbol s) value)
 
@@ -68,9 +68,9 @@ module _ (p : Parts) (names : List (List ℕ)) where
   both false b e = absurd (true≢false (sym e))
 
   kept : (s : SymbolOf) (x : Local) → local_in p names s ≡ Some x → IsOf s x
-  kept s x e = by (is_candidate s) (position (bytes_eq s.name) names) (symbol_value p.placed s) refl refl refl e
+  kept s x e = by (is_candidate s) (position (bytes_eq s.name) names) (symbol_value p.placed p.merged s) refl refl refl e
     where
-      by : (b : Bool) (o u : Option ℕ) → is_candidate s ≡ b → position (bytes_eq s.name) names ≡ o → symbol_value p.placed s ≡ u →
+      by : (b : Bool) (o u : Option ℕ) → is_candidate s ≡ b → position (bytes_eq s.name) names ≡ o → symbol_value p.placed p.merged s ≡ u →
           cond b (option_and_then (λ k. option_map (local_with k) (option_map (wanted_of p.objects p.placed (Symbol s)) u)) o) None ≡ Some x → IsOf s x
       by false o u c d f is = absurd (none-some x is)
       by true None u c d f is = absurd (none-some x is)
@@ -90,7 +90,7 @@ module _ (p : Parts) (names : List (List ℕ)) where
 
   keeps :
       (s : SymbolOf) (k v : ℕ) → is_local s ≡ true → is_undefined s.entry ≡ false → position (bytes_eq s.name) names ≡ Some k →
-      symbol_value p.placed s ≡ Some v → local_in p names s ≡ Some (local_with k (wanted_of p.objects p.placed (Symbol s) v))
+      symbol_value p.placed p.merged s ≡ Some v → local_in p names s ≡ Some (local_with k (wanted_of p.objects p.placed (Symbol s) v))
   keeps s k v local defined number value =
       ap (λ (b : Bool). cond (b && not (is_undefined s.entry)) (option_and_then (numbered p s) (position (bytes_eq s.name) names)) None) local
       ∙ (ap (λ (b : Bool). cond (not b) (option_and_then (numbered p s) (position (bytes_eq s.name) names)) None) defined

@@ -34,13 +34,13 @@ module _ (l : ForeignLink) (names : List (List ℕ)) (among : (n : List ℕ) →
       ∙ list_any-from_Any (is_name_of strings n) (image_symbols l.image)
       (any_weaker (λ e. has_this_name l n e ≡ true) (λ e. is_name_of strings n e ≡ true) (λ e h. turned _ n h) (image_symbols l.image) some)
 
-  pub there_iff : All (IsThere (objects_of l) (placed_of l) names) (all_symbols (objects_of l)) ↔ AreThere l
+  pub there_iff : All (IsThere (objects_of l) (placed_of l) l.certificate.merged names) (all_symbols (objects_of l)) ↔ AreThere l
   there_iff = (
     λ all.
-        All-weaker (IsThere (objects_of l) (placed_of l) names)
+        All-weaker (IsThere (objects_of l) (placed_of l) l.certificate.merged names)
         (λ s. is_tabled l s ≡ true → Any (λ e. has_this_name l s.name e ≡ true) (image_symbols l.image))
         (λ s h tabled. to s.name (h.there tabled)) (all_symbols (objects_of l)) all,
     λ all.
         All-weaker (λ s. is_tabled l s ≡ true → Any (λ e. has_this_name l s.name e ≡ true) (image_symbols l.image))
-        (IsThere (objects_of l) (placed_of l) names) (λ s h. record { there = λ tabled. from s.name (h tabled) }) (all_symbols (objects_of l)) all,
+        (IsThere (objects_of l) (placed_of l) l.certificate.merged names) (λ s h. record { there = λ tabled. from s.name (h tabled) }) (all_symbols (objects_of l)) all,
   )

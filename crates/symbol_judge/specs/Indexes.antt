@@ -26,7 +26,7 @@ pub record AreIndexed (placed : List Placed) (rows : List NameRow) (sizes : Addr
 
 -- what the entry of a name has to be that objects or the linker define; None where it has no value, or is not defined
 abbrev pub wanted_at : Parts → Meaning → Option Wanted
-wanted_at p m = option_map (wanted_of p.objects p.placed m) (value_of p.placed p.rows m)
+wanted_at p m = option_map (wanted_of p.objects p.placed m) (value_of p.placed p.merged p.rows m)
 
 abbrev pub wanted_by : Parts → List ℕ → Option Wanted
 wanted_by p name = option_and_then (wanted_at p) (object_or_linker p.objects p.pieces name)

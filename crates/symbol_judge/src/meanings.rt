@@ -17,7 +17,7 @@ use check_load::Loaded;
 use elf_model::{SHN_ABS, SHN_UNDEF, STT_OBJECT};
 use foreign_image::ForeignImage;
 use judge_model::NameLine;
-use link_fields::{Addresses, LinkParts, definition_of};
+use link_fields::{Addresses, LinkParts, MergedLines, definition_of, merged_value};
 use std::alloc::{AllocError, Global};
 use std::collections::{BTreeMap, HashMap};
 use std::marker::Model;
@@ -30,6 +30,7 @@ pub struct Meanings<'l, 'p, 'a> {
     names: &'l Names<'l, 'a>,
     outputs: &'l Outputs<'l, 'a>,
     addresses: &'l Addresses<'p, 'a>,
+    merged: &'l MergedLines<'l>,
     rows: &'l [NameLine],
     got: Option<u64>,
     sizes: HashMap<(u64, u64), u64>,
@@ -50,6 +51,7 @@ impl<'l, 'p, 'a> Model for Meanings<'l, 'p, 'a> {
       objects = m.names.now;
       pieces = m.outputs.now;
       placed = m.addresses.now;
+      merged = m.merged.now;
       rows = map name_row m.rows.now;
       got = m.got;
       script = None;
@@ -59,9 +61,13 @@ impl<'l, 'p, 'a> Model for Meanings<'l, 'p, 'a> {
 }
 
 /// The value of a defined symbol: an absolute one's `st_value`, else the address of its section plus `st_value`, which may not
-/// fit 64 bits; None where the section has no address.
-fn symbol_value(addresses: &Addresses<'_, '_>, symbol: &SymbolOf<'_>) -> Option<u128>
-    ensures { result ≡ words.symbol_value addresses.now (symbol_view symbol.now) }
+/// fit 64 bits, or of a section that was merged where its string or constant is; None where the image hasn't got it.
+fn symbol_value(
+    addresses: &Addresses<'_, '_>,
+    merged: &MergedLines<'_>,
+    symbol: &SymbolOf<'_>,
+) -> Option<u128>
+    ensures { result ≡ words.symbol_value addresses.now merged.now (symbol_view symbol.now) }
 {
     let entry = symbol.entry;
     if entry.st_shndx == SHN_ABS {
@@ -69,7 +75,7 @@ fn symbol_value(addresses: &Addresses<'_, '_>, symbol: &SymbolOf<'_>) -> Option<
     }
     match addresses.address(symbol.object, entry.st_shndx as u64) {
         Some(at) => Some(at as u128 + entry.st_value as u128),
-        None => None,
+        None => merged_value(merged, symbol),
     }
 }
 
@@ -155,6 +161,7 @@ impl<'l, 'p, 'a> Meanings<'l, 'p, 'a> {
             names: parts.names,
             outputs: parts.outputs,
             addresses: parts.addresses,
+            merged: parts.merged,
             rows: parts.rows,
             got: parts.got,
             sizes,
@@ -191,10 +198,11 @@ impl<'l, 'p, 'a> Meanings<'l, 'p, 'a> {
     /// The value of a definition; None where the image hasn't got it.
     fn value_of(&self, meaning: &Meaning<'_>) -> Option<u128>
         ensures { result
-            ≡ words.value_of self.now.placed self.now.rows (meaning_view meaning.now) }
+            ≡ words.value_of self.now.placed self.now.merged self.now.rows
+            (meaning_view meaning.now) }
     {
         match meaning {
-            Meaning::Symbol(symbol) => symbol_value(self.addresses, symbol),
+            Meaning::Symbol(symbol) => symbol_value(self.addresses, self.merged, symbol),
             Meaning::Common(block) => block_value(self.addresses, block.object, block.number),
             Meaning::Linker(name, _) => self.row_value(name),
         }
@@ -268,12 +276,13 @@ impl<'l, 'p, 'a> Meanings<'l, 'p, 'a> {
     /// Whether the table has to have the name of a symbol: one that isn't LOCAL, and that is defined outside of thread-local
     /// storage in what the image has.
     pub fn is_tabled(&self, symbol: &SymbolOf<'_>) -> bool
-        ensures { result ≡ is_tabled_in self.now.objects self.now.placed (symbol_view symbol.now) }
+        ensures { result ≡ is_tabled_in self.now.objects self.now.placed self.now.merged
+            (symbol_view symbol.now) }
     {
         if symbol.entry.is_local() || symbol.entry.st_shndx == SHN_UNDEF {
             return false;
         }
-        if symbol_value(self.addresses, symbol).is_none() {
+        if symbol_value(self.addresses, self.merged, symbol).is_none() {
             return false;
         }
         !is_in_thread_section(self.objects(), symbol)

@@ -25,7 +25,7 @@ fn is_there<'a>(
     names: &NameTable<'_>,
     symbol: &SymbolOf<'a>,
 ) -> bool
-    ensures { IsTrue result ↔ IsThere meanings.now.objects meanings.now.placed names.now
+    ensures { IsTrue result ↔ IsThere meanings.now.objects meanings.now.placed meanings.now.merged names.now
         (symbol_view symbol.now) }
 {
     if !meanings.is_tabled(symbol) {
@@ -42,7 +42,7 @@ fn are_own_there<'a>(
     loaded: &Loaded<'a>,
 ) -> bool
     ensures { IsTrue result
-        ↔ All (IsThere meanings.now.objects meanings.now.placed names.now)
+        ↔ All (IsThere meanings.now.objects meanings.now.placed meanings.now.merged names.now)
         (symbols_from number (loaded_view loaded.now) 0 (symbols loaded.now.object)) }
 {
     let entries = loaded.object.symbols();
@@ -58,7 +58,7 @@ fn are_own_there<'a>(
 /// Whether the names of all objects are there.
 fn are_there(meanings: &Meanings<'_, '_, '_>, names: &NameTable<'_>) -> bool
     ensures { IsTrue result
-        ↔ All (IsThere meanings.now.objects meanings.now.placed names.now)
+        ↔ All (IsThere meanings.now.objects meanings.now.placed meanings.now.merged names.now)
         (all_symbols meanings.now.objects) }
 {
     let objects = meanings.objects();

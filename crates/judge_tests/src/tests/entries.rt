@@ -9,7 +9,7 @@ use check_load::{Loaded, NameTable, NamedObjects};
 use elf_model::{SHF_ALLOC, SHF_EXECINSTR, SHF_TLS, SHF_WRITE, SHT_PROGBITS};
 use entry_judge::is_entry_right;
 use foreign_image::ForeignImage;
-use link_fields::{Addresses, LinkParts};
+use link_fields::{Addresses, LinkParts, MergedLines};
 use std::alloc::{AllocError, Global};
 use std::test::Fail;
 
@@ -69,11 +69,13 @@ fn enters<'a>(
     let addresses = Addresses::new(alloc, placed)?;
     match ForeignImage::read(alloc, View::new(image))? {
         Some(image) => {
+            let merged = MergedLines::new(&[]);
             let parts = LinkParts {
                 image: &image,
                 names,
                 outputs: &outputs,
                 addresses: &addresses,
+                merged: &merged,
                 rows: &[],
                 got: None,
             };

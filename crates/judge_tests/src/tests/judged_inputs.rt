@@ -9,8 +9,8 @@ use crate::tests::sample_objects::{
 use check_link::{Names, Piece};
 use check_load::NamedObjects;
 use elf_model::{
-    DropLine, PlaceLine, ProgramHeader, SHF_ALLOC, SHF_EXECINSTR, SHF_MERGE, SHT_PROGBITS,
-    SHT_RELA, SectionHeader,
+    DropLine, PlaceLine, ProgramHeader, SHF_ALLOC, SHF_EXECINSTR, SHF_MERGE, SHF_WRITE,
+    SHT_PROGBITS, SHT_RELA, SectionHeader,
 };
 use input_judge::{
     are_arrays_whole, are_compiled, are_fields_apart, are_fields_inside, are_notes_joined,
@@ -148,16 +148,20 @@ fn arrays_have_whole_entries(rt: HostRuntime) -> Result<(), Fail> {
 }
 
 /// A section: its name, flags and entry size.
-static PLAIN: [(&str, u64, u64); 4] = [
+static PLAIN: [(&str, u64, u64); 8] = [
     (".rodata", SHF_ALLOC, 1),
-    (".rodata.cst8", SHF_ALLOC + SHF_MERGE, 0),
+    (".strings", SHF_ALLOC + SHF_MERGE, 0),
+    (".strings", SHF_ALLOC + SHF_MERGE + SHF_WRITE, 1),
+    (".rodata.str1.1", SHF_ALLOC + SHF_MERGE, 1),
+    (".rodata.cst16", SHF_ALLOC + SHF_MERGE, 16),
+    (".lrodata", SHF_ALLOC + SHF_MERGE, 1),
     (".eh_frame_hdr", SHF_ALLOC, 0),
     (".note.gnu.property", SHF_ALLOC, 0),
 ];
 
 static EDITED: [(&str, u64, u64); 4] = [
-    (".rodata.str1.1", SHF_ALLOC + SHF_MERGE, 1),
-    (".rodata.cst16", SHF_ALLOC + SHF_MERGE, 16),
+    (".strings", SHF_ALLOC + SHF_MERGE, 1),
+    (".rodatas", SHF_ALLOC + SHF_MERGE, 16),
     (".eh_frame", SHF_ALLOC, 0),
     (".eh_frame", SHF_ALLOC + SHF_MERGE, 1),
 ];
@@ -189,7 +193,7 @@ fn line_at(alloc: Global, line: (u64, u64)) -> PlaceLine {
     }
 }
 
-/// Whether linkers leave section 2 of object 1 as it is, which is no object's that is loaded, given one line.
+/// Whether it is judged what linkers make of section 2 of object 1, which is no object's that is loaded, given one line.
 fn is_plain(alloc: Global, row: &(&'static str, u64, u64), line: (u64, u64)) -> Result<bool, Fail> {
     let piece = section(row);
     let place = line_at(alloc, line);
@@ -235,7 +239,7 @@ fn tables_of_frames_are_told(rt: HostRuntime) -> Result<(), Fail> {
 }
 
 #[test]
-fn linkers_edit_strings_constants_and_frames(rt: HostRuntime) -> Result<(), Fail> {
+fn strings_of_other_names_and_frames_are_edited(rt: HostRuntime) -> Result<(), Fail> {
     for row in &PLAIN {
         assert!(rt; is_plain(rt.alloc(), row, (2, 1))?, "{}", row.0);
     }
@@ -346,8 +350,8 @@ fn no_byte_lies_in_two_fields(rt: HostRuntime) -> Result<(), Fail> {
     Ok(())
 }
 
-/// Whether linkers leave the code of that object as it is, if its section were one of constants, whose relocations have these types.
-fn is_left(alloc: Global, first: u64, second: u64) -> Result<bool, Fail> {
+/// Whether it is judged what linkers make of the code of that object, if its section were one of constants, whose relocations have these types.
+fn is_judged(alloc: Global, first: u64, second: u64) -> Result<bool, Fail> {
     let files = file(alloc, relocated(alloc, (0, first), (4, second))?)?;
     let words = words(alloc)?;
     let named = loaded(alloc, &words, &files)?;
@@ -366,9 +370,9 @@ fn is_left(alloc: Global, first: u64, second: u64) -> Result<bool, Fail> {
 }
 
 #[test]
-fn constants_that_relocations_change_are_left(rt: HostRuntime) -> Result<(), Fail> {
-    assert!(rt; is_left(rt.alloc(), 1, 0)?);
-    assert!(rt; is_left(rt.alloc(), 0, 2)?);
-    assert!(rt; !is_left(rt.alloc(), 0, 0)?);
+fn constants_that_relocations_change_are_edited(rt: HostRuntime) -> Result<(), Fail> {
+    assert!(rt; !is_judged(rt.alloc(), 1, 0)?);
+    assert!(rt; !is_judged(rt.alloc(), 0, 2)?);
+    assert!(rt; is_judged(rt.alloc(), 0, 0)?);
     Ok(())
 }

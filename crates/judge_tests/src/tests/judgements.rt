@@ -7,7 +7,7 @@ use elf_model::{
     SHF_ALLOC, SHF_EXECINSTR, SHF_WRITE, SHT_NOBITS, SHT_PROGBITS,
 };
 use foreign_words::read_foreign_words;
-use judge_model::{Certificate, NameLine, NoteLine, Requirement};
+use judge_model::{Certificate, MergedLine, NameLine, Requirement, StretchLine};
 use link_judge::{Judgement, Reason, judge};
 use std::alloc::{AllocError, Global};
 use std::test::Fail;
@@ -374,7 +374,9 @@ fn certificate(alloc: Global, row: &Row) -> Result<Certificate, AllocError> {
         drops: drops(alloc, row)?,
         places: places(alloc, row)?,
         commons: commons(alloc, row)?,
-        notes: Vec::<NoteLine>::new(alloc),
+        notes: Vec::<StretchLine>::new(alloc),
+        areas: Vec::<StretchLine>::new(alloc),
+        merged: Vec::<MergedLine>::new(alloc),
         names: names(alloc, row)?,
         got: None,
     })

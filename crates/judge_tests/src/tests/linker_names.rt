@@ -13,8 +13,8 @@ use elf_model::{
     FileHeader, ProgramHeader, SHF_ALLOC, SHF_EXECINSTR, SHF_WRITE, SHT_NOBITS, SHT_PROGBITS, Thing,
 };
 use foreign_image::ForeignImage;
-use judge_model::{NameLine, NoteLine};
-use link_fields::{Addresses, LinkParts};
+use judge_model::{NameLine, StretchLine};
+use link_fields::{Addresses, LinkParts, MergedLines};
 use name_judge::{are_names_right, are_names_unmixed, do_bounds_spare_slots};
 use std::alloc::{AllocError, Global};
 use std::test::Fail;
@@ -127,7 +127,7 @@ fn are_right<'a>(
     placed: &[Placed<'a>],
     image: &'a [u8],
     rows: &[NameLine],
-    notes: &[NoteLine],
+    notes: &[StretchLine],
     slots: &[u64],
 ) -> Result<Option<bool>, AllocError> {
     if !are_low(placed) {
@@ -139,11 +139,13 @@ fn are_right<'a>(
         Some(image) => {
             let first = image.segments().first().map_or(0, |h| h.p_vaddr);
             let things = things(alloc, first, placed)?;
+            let merged = MergedLines::new(&[]);
             let parts = LinkParts {
                 image: &image,
                 names,
                 outputs: &outputs,
                 addresses: &addresses,
+                merged: &merged,
                 rows,
                 got: GOT,
             };
@@ -161,7 +163,7 @@ fn told<'a>(
     layout: &Layout,
     image: &'a [u8],
     rows: &[NameLine],
-    notes: &[NoteLine],
+    notes: &[StretchLine],
     slots: &[u64],
 ) -> Result<Option<bool>, AllocError>
     requires { AreNumbered table objects.now }
@@ -177,7 +179,7 @@ fn judged_by(
     alloc: Global,
     layout: &Layout,
     rows: &[NameLine],
-    notes: &[NoteLine],
+    notes: &[StretchLine],
     slots: &[u64],
 ) -> Result<Option<bool>, Fail> {
     let header = FileHeader {
@@ -198,12 +200,12 @@ pub fn judged_in(
     alloc: Global,
     layout: &Layout,
     rows: &[NameLine],
-    notes: &[NoteLine],
+    notes: &[StretchLine],
 ) -> Result<Option<bool>, Fail> {
     judged_by(alloc, layout, rows, notes, &[])
 }
 
-fn judged(alloc: Global, rows: &[NameLine], notes: &[NoteLine]) -> Result<Option<bool>, Fail> {
+fn judged(alloc: Global, rows: &[NameLine], notes: &[StretchLine]) -> Result<Option<bool>, Fail> {
     judged_in(alloc, &OWN, rows, notes)
 }
 
@@ -271,7 +273,7 @@ fn the_end_is_behind_notes(rt: HostRuntime) -> Result<(), Fail> {
     let before = judged(
         rt.alloc(),
         &rows,
-        &[NoteLine {
+        &[StretchLine {
             address: 0x20_1104,
             size: 3,
         }],
@@ -279,7 +281,7 @@ fn the_end_is_behind_notes(rt: HostRuntime) -> Result<(), Fail> {
     let behind = judged(
         rt.alloc(),
         &rows,
-        &[NoteLine {
+        &[StretchLine {
             address: 0x20_1104,
             size: 4,
         }],

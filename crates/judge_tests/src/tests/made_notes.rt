@@ -6,7 +6,7 @@ use byteview::View;
 use check_load::Loaded;
 use elf_model::{ProgramHeader, SHF_ALLOC, SHT_NOTE, SHT_PROGBITS};
 use foreign_image::ForeignImage;
-use judge_model::NoteLine;
+use judge_model::StretchLine;
 use note_judge::are_notes_right;
 use std::alloc::Global;
 use std::test::Fail;
@@ -42,18 +42,18 @@ const BOTH: [u8; 32] = [
 struct Row {
     front: [u8; 16],
     rest: [u8; 32],
-    notes: &'static [NoteLine],
+    notes: &'static [StretchLine],
     header: ProgramHeader,
     features: u64,
 }
 
 /// The line of a note of 36 bytes at the segment's beginning.
-const LINE: NoteLine = NoteLine {
+const LINE: StretchLine = StretchLine {
     address: 0x20_10e8,
     size: 36,
 };
 
-const SHORT_LINE: NoteLine = NoteLine { size: 32, ..LINE };
+const SHORT_LINE: StretchLine = StretchLine { size: 32, ..LINE };
 
 const ID: Row = Row {
     front: BUILD,
@@ -95,7 +95,7 @@ static WRONG: [Row; 9] = [
         ..ID
     },
     Row {
-        notes: &[NoteLine {
+        notes: &[StretchLine {
             address: 0x20_10ec,
             ..LINE
         }],

@@ -7,7 +7,7 @@ use elf_model::{
     SectionHeader, Thing,
 };
 use foreign_image::ForeignImage;
-use judge_model::NoteLine;
+use judge_model::StretchLine;
 use place_judge::{
     Start, are_aligned, are_apart, are_in_memory, are_lines_of, are_starts_right, begins_at,
     do_sections_ask_for_both, is_some_both, things_of,
@@ -273,7 +273,7 @@ fn are_things(image: &ForeignImage<'_>, things: &[Thing]) -> bool {
 #[test]
 fn headers_notes_and_sections_take_up_memory(rt: HostRuntime) -> Result<(), Fail> {
     let bytes = image_of(rt.alloc(), &HEADER, &[HEADERS, CODE, BLOCK])?;
-    let note = NoteLine {
+    let note = StretchLine {
         address: 0x20_00c8,
         size: 32,
     };

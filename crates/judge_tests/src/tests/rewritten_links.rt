@@ -10,7 +10,7 @@ use elf_model::{
     DropLine, R_X86_64_REX_GOTPCRELX, SHF_ALLOC, SHF_EXECINSTR, SHT_PROGBITS, SHT_RELA, Thing,
 };
 use foreign_image::ForeignImage;
-use link_fields::{Addresses, Drops, LinkParts, are_fields_right};
+use link_fields::{Addresses, Drops, LinkParts, MergedLines, are_fields_right};
 use memory_judge::Taken;
 use std::alloc::{AllocError, Global};
 use std::test::Fail;
@@ -123,11 +123,13 @@ fn are_right<'a>(
     let taken = Taken::new(alloc, &[TAKEN])?;
     match ForeignImage::read(alloc, View::new(image))? {
         Some(image) => {
+            let merged = MergedLines::new(&[]);
             let parts = LinkParts {
                 image: &image,
                 names,
                 outputs: &outputs,
                 addresses: &addresses,
+                merged: &merged,
                 rows: &[],
                 got: None,
             };

@@ -14,7 +14,7 @@ use elf_model::{
 };
 use foreign_image::ForeignImage;
 use judge_model::NameLine;
-use link_fields::{Addresses, LinkParts};
+use link_fields::{Addresses, LinkParts, MergedLines};
 use std::alloc::{AllocError, Global};
 use std::test::Fail;
 use symbol_judge::are_tables_right;
@@ -364,11 +364,13 @@ fn are_right<'a>(
     let addresses = Addresses::new(alloc, placed)?;
     match ForeignImage::read(alloc, View::new(image))? {
         Some(image) => {
+            let merged = MergedLines::new(&[]);
             let parts = LinkParts {
                 image: &image,
                 names,
                 outputs: &outputs,
                 addresses: &addresses,
+                merged: &merged,
                 rows,
                 got: None,
             };

@@ -1,4 +1,4 @@
-use Rattle.std.proofs.Common.{◌+◌, ◌%◌, ◌^◌, ◌∙◌, List, ℕ, ap, subst, sym}
+use Rattle.std.proofs.Common.{◌+◌, ◌%◌, ◌^◌, ◌∙◌, List, ℕ, ap, subst}
 use Rattle.std.specs.Prelude.{Any, Contains}
 use Rattle.check_load.specs.Views.{loaded_view}
 use Rattle.elf_model.proofs.FlatRelocations.{left_of_objects, object_end}

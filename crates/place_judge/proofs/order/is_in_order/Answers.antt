@@ -1,8 +1,5 @@
-use Rattle.std.proofs.Common.{◌∙◌, List, subst, sym}
+use Rattle.std.proofs.Common.{◌∙◌, sym}
 use Rattle.std.proofs.lemmas.Bool.{false≢true}
-use Rattle.elf_model.specs.Image.MapText.{Ascends}
-use Rattle.judge_model.specs.Certificates.{NoteBefore}
-use Rattle.judge_model.specs.declared.certificate.NoteLine.{NoteLine}
 use Rattle.place_judge.proofs.order.is_in_order.Goals as goal
 
 pub returns-then-not-are_sections_in_order : goal.returns-then-not-are_sections_in_order
@@ -22,12 +19,15 @@ returns c = (
   λ t.
       let sections = c.are_sections_in_order.ensures.0 c.if-not-are_sections_in_order.false in
       let texts = c.are_texts_in_order.ensures.0 c.if-not-are_texts_in_order.false in
+      let stretches = c.are_stretches_in_order.ensures.0 t in
       record {
         drops = sections.drops;
         places = sections.places;
         commons = texts.commons;
-        notes = subst (λ (xs : List NoteLine). Ascends NoteBefore xs) c.deref.ensures.value (c.are_notes_rising.ensures.0 t);
+        notes = stretches.notes;
+        areas = stretches.areas;
+        merged = stretches.merged;
         names = texts.names;
       },
-  λ r. c.are_notes_rising.ensures.1 (subst (λ (xs : List NoteLine). Ascends NoteBefore xs) (sym c.deref.ensures.value) r.notes),
+  λ r. c.are_stretches_in_order.ensures.1 (record { notes = r.notes; areas = r.areas; merged = r.merged }),
 )

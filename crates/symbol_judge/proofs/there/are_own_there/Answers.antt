@@ -10,7 +10,7 @@ use Rattle.symbol_judge.proofs.there.are_own_there.Goals as goal
 
 pub returns-then-not-is_there : goal.returns-then-not-is_there
 returns-then-not-is_there c =
-    let P = IsThere c.args.meanings.now.objects c.args.meanings.now.placed c.args.names.now in
+    let P = IsThere c.args.meanings.now.objects c.args.meanings.now.placed c.args.meanings.now.merged c.args.names.now in
     let o = loaded_view c.args.loaded.now in
     let k = c.args.number in
     let es = c.symbols-entries.result.now in
@@ -24,7 +24,7 @@ returns-then-not-is_there c =
 
 pub loop-j-preserved : goal.loop-j-preserved
 loop-j-preserved c =
-    let P = IsThere c.args.meanings.now.objects c.args.meanings.now.placed c.args.names.now in
+    let P = IsThere c.args.meanings.now.objects c.args.meanings.now.placed c.args.meanings.now.merged c.args.names.now in
     let o = loaded_view c.args.loaded.now in
     let k = c.args.number in
     let es = c.symbols-entries.result.now in

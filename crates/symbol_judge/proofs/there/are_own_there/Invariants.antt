@@ -9,5 +9,5 @@ use Rattle.symbol_judge.proofs.there.are_own_there.Given as goal
 abbrev pub invariant-loop-j : goal.invariant-loop-j
 invariant-loop-j l =
     Left
-    (All (IsThere l.meanings.objects l.meanings.placed l.names) (symbols_from l.number (loaded_view l.loaded) 0 l.entries))
-    (All (IsThere l.meanings.objects l.meanings.placed l.names) (symbols_from l.number (loaded_view l.loaded) l.j (drop l.j l.entries)))
+    (All (IsThere l.meanings.objects l.meanings.placed l.meanings.merged l.names) (symbols_from l.number (loaded_view l.loaded) 0 l.entries))
+    (All (IsThere l.meanings.objects l.meanings.placed l.meanings.merged l.names) (symbols_from l.number (loaded_view l.loaded) l.j (drop l.j l.entries)))

@@ -8,7 +8,7 @@ use Rattle.symbol_judge.proofs.there.are_there.Goals as goal
 
 pub returns-then-not-are_own_there : goal.returns-then-not-are_own_there
 returns-then-not-are_own_there c =
-    let P = IsThere c.args.meanings.now.objects c.args.meanings.now.placed c.args.names.now in (
+    let P = IsThere c.args.meanings.now.objects c.args.meanings.now.placed c.args.meanings.now.merged c.args.names.now in (
       λ t. absurd (false≢true t),
       λ all. absurd
           (object_stop P (All P (all_symbols c.args.meanings.now.objects)) c.objects-objects.result.now c.loop-k.k c.index-objects-k.result
@@ -18,6 +18,6 @@ returns-then-not-are_own_there c =
 
 pub loop-k-preserved : goal.loop-k-preserved
 loop-k-preserved c =
-    let P = IsThere c.args.meanings.now.objects c.args.meanings.now.placed c.args.names.now in
+    let P = IsThere c.args.meanings.now.objects c.args.meanings.now.placed c.args.meanings.now.merged c.args.names.now in
     object_more P (All P (all_symbols c.args.meanings.now.objects)) c.objects-objects.result.now c.loop-k.k c.index-objects-k.result
     c.loop-k-test.true c.index-objects-k.is c.loop-k.invariant (c.are_own_there.ensures.0 c.if-not-are_own_there.false)

@@ -9,5 +9,5 @@ use Rattle.symbol_judge.proofs.there.are_there.Given as goal
 abbrev pub invariant-loop-k : goal.invariant-loop-k
 invariant-loop-k l =
     Left
-    (All (IsThere l.meanings.objects l.meanings.placed l.names) (all_symbols l.meanings.objects))
-    (All (IsThere l.meanings.objects l.meanings.placed l.names) (symbols_of l.k (drop l.k (loaded_views l.objects))))
+    (All (IsThere l.meanings.objects l.meanings.placed l.meanings.merged l.names) (all_symbols l.meanings.objects))
+    (All (IsThere l.meanings.objects l.meanings.placed l.meanings.merged l.names) (symbols_of l.k (drop l.k (loaded_views l.objects))))

@@ -1,0 +1,4 @@
+pub mod AreaLaws
+pub mod LineLaws
+pub mod SectionLaws
+pub mod UnitLaws

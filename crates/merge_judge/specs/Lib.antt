@@ -1,0 +1,4 @@
+pub mod Areas
+pub mod Lines
+pub mod Sections
+pub mod Units
