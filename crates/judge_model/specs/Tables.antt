@@ -10,7 +10,7 @@ use Rattle.elf_model.specs.Inputs.ObjectFile.{contents, entries, has_no_bytes, s
 use Rattle.elf_model.specs.Inputs.Records.{file_header, section_header}
 use Rattle.elf_model.specs.Link.LinkerNames.{is_start_name, is_stop_name}
 use Rattle.elf_model.specs.Link.LinkerValues.{start_of_pieces}
-use Rattle.elf_model.specs.Link.Meaning.{Common, Linker, Meaning, Symbol, is_in_thread_storage, meaning_size}
+use Rattle.elf_model.specs.Link.Meaning.{Common, Linker, Meaning, Symbol, is_in_thread_storage}
 use Rattle.elf_model.specs.Link.Pieces.{is_alloc, is_nobits, is_thread_local, is_thread_piece, load_size}
 use Rattle.elf_model.specs.Link.Placement.{Placed, is_of_section}
 use Rattle.elf_model.specs.Link.Relocation.{is_local}
@@ -82,8 +82,8 @@ AreCovered l =
 abbrev pub shn_xindex : ℕ
 shn_xindex = 0xffff
 
--- An entry stands in the section that has its value, or names none; or st_shndx has no room for the number of its section,
--- where there are so many. One of what takes up no memory may stand in any: what a linker defines, as `__ehdr_start` of all,
+-- An entry stands in the section with SHF_ALLOC that has its value, or names none; or st_shndx has no room for the number of its
+-- section, where there are so many. One of what takes up no memory may stand in any: what a linker defines, as `__ehdr_start` of all,
 -- and what is defined in an empty section.
 abbrev pub is_beyond_numbers : List ℕ → entry.Symbol → Bool
 is_beyond_numbers image e = e.st_shndx == shn_xindex && nat_le SHN_LORESERVE (section_count image)
@@ -92,7 +92,7 @@ abbrev pub IsOfSection : List ℕ → entry.Symbol → ℕ → Type 0
 IsOfSection image e v =
     (e.st_shndx ≡ SHN_ABS)
     ⊎ (is_beyond_numbers image e ≡ true)
-    ⊎ IsSomeAnd (slice_get (image_sections image) e.st_shndx) (λ h. (h.sh_addr ≤ v) × (v ≤ h.sh_addr + h.sh_size))
+    ⊎ IsSomeAnd (slice_get (image_sections image) e.st_shndx) (λ h. (is_alloc h ≡ true) × (h.sh_addr ≤ v) × (v ≤ h.sh_addr + h.sh_size))
 
 abbrev pub IsOfSome : List ℕ → entry.Symbol → Type 0
 IsOfSome image e = (is_undefined e ≡ false) × (e.st_shndx < length (image_sections image))
@@ -116,7 +116,13 @@ block_start l = unwrap_or (start_of_pieces is_thread_piece (placed_of l)) 0
 abbrev pub entry_value : ForeignLink → Meaning → ℕ → ℕ
 entry_value l m v = cond (is_in_thread_storage (objects_of l) m) (v - block_start l) (v % 2 ^ 64)
 
--- type and binding: those of the symbol, or none and LOCAL; a common block is an object, a linker's name has no type
+-- size, type and binding: those of the symbol, or none and LOCAL; a common block is an object; a linker's name has no type, and what
+-- size it has no standard says
+abbrev pub HasSizeOf : entry.Symbol → Meaning → Type 0
+HasSizeOf e (Symbol s) = (e.st_size ≡ s.entry.st_size) ⊎ (e.st_size ≡ 0)
+HasSizeOf e (Common b) = (e.st_size ≡ b.size) ⊎ (e.st_size ≡ 0)
+HasSizeOf e (Linker name bound) = Unit {0}
+
 abbrev pub HasTypeOf : entry.Symbol → Meaning → Type 0
 HasTypeOf e (Symbol s) = (symbol_type e ≡ symbol_type s.entry) ⊎ (symbol_type e ≡ STT_NOTYPE)
 HasTypeOf e (Common b) = (symbol_type e ≡ STT_OBJECT) ⊎ (symbol_type e ≡ STT_NOTYPE)
@@ -128,7 +134,7 @@ HasBindingOf e m = Unit {0}
 
 pub record IsEntryOf (l : ForeignLink) (e : entry.Symbol) (m : Meaning) (v : ℕ) : Type 0 where
   pub value : e.st_value ≡ entry_value l m v
-  pub size : (e.st_size ≡ meaning_size m) ⊎ (e.st_size ≡ 0)
+  pub size : HasSizeOf e m
   pub type_ : HasTypeOf e m
   pub binding_ : HasBindingOf e m
   pub section : StandsRight l e m v

@@ -22,13 +22,13 @@ use Rattle.judge_model.specs.Means as means
 use Rattle.judge_model.specs.Plans.{Script, is_match}
 use Rattle.std.specs.List.{list_any}
 use Rattle.judge_model.specs.Tables as tables
-use Rattle.judge_model.specs.Tables.{HasBindingOf, HasTypeOf, IsEntryOf, IsEntryRight, IsFile, IsGlobalEntry, IsLocalEntry, IsLocalOf, IsMade, IsMissing, IsOfSection, IsScriptEntry, IsSection, StandsRight, image_sections, name_of_entry, section_count, shn_xindex, strings_of}
+use Rattle.judge_model.specs.Tables.{HasBindingOf, HasSizeOf, HasTypeOf, IsEntryOf, IsEntryRight, IsFile, IsGlobalEntry, IsLocalEntry, IsLocalOf, IsMade, IsMissing, IsOfSection, IsScriptEntry, IsSection, StandsRight, image_sections, name_of_entry, section_count, shn_xindex, strings_of}
 use Rattle.link_fields.specs.Parts.{Parts, parts_of}
 use Rattle.link_fields.specs.Parts as words
 use Rattle.symbol_judge.specs.Entries.{IsLocalEntryBy, IsMadeBy, IsMissingBy, IsRightBy, IsRightNamed, IsSectionBy, named_by}
 use Rattle.symbol_judge.specs.Indexes.{wanted_at}
 use Rattle.symbol_judge.specs.Locals.{IsLocalBy, locals_in}
-use Rattle.symbol_judge.specs.Wanted.{Fits, HasBinding, HasKind, IsOfSectionIn, StandsIn, binding_of, takes_no_memory, type_of, wanted_of}
+use Rattle.symbol_judge.specs.Wanted.{Fits, HasBinding, HasKind, HasSize, IsOfSectionIn, StandsIn, binding_of, size_of, takes_no_memory, type_of, wanted_of}
 use Rattle.symbol_judge.specs.declared.entries.Named.{Named}
 use Rattle.symbol_judge.specs.declared.locals.Local.{Local}
 use Rattle.symbol_judge.specs.declared.wanted.Wanted.{Wanted}
@@ -51,7 +51,17 @@ module _ (l : ForeignLink) (e : entry.Symbol) where
   abbrev wanted : Meaning → ℕ → Wanted
   wanted m v = wanted_of (objects_of l) (placed_of l) m v
 
-  -- type and binding
+  -- size, type and binding
+  sized_of : (m : Meaning) → HasSize e (size_of m) → HasSizeOf e m
+  sized_of (Symbol s) h = h.size_is
+  sized_of (Common b) h = h.size_is
+  sized_of (Linker name bound) h = tt
+
+  sized_in : (m : Meaning) → HasSizeOf e m → HasSize e (size_of m)
+  sized_in (Symbol s) h = record { size_is = h }
+  sized_in (Common b) h = record { size_is = h }
+  sized_in (Linker name bound) h = record { size_is = tt }
+
   kind_of : (m : Meaning) → HasKind e (type_of m) → HasTypeOf e m
   kind_of (Symbol s) h = h.kind_is
   kind_of (Common b) h = h.kind_is
@@ -114,7 +124,7 @@ module _ (l : ForeignLink) (e : entry.Symbol) where
   entry_of_fit : (m : Meaning) (v : ℕ) → Fits hs e (wanted m v) → IsEntryOf l e m v
   entry_of_fit m v f = record {
     value = f.value;
-    size = f.size.size_is;
+    size = sized_of m f.size;
     type_ = kind_of m f.kind;
     binding_ = bound_of m f.binding_;
     section = stands_of m v f.section;
@@ -123,7 +133,7 @@ module _ (l : ForeignLink) (e : entry.Symbol) where
   fit_of_entry : (m : Meaning) (v : ℕ) → IsEntryOf l e m v → Fits hs e (wanted m v)
   fit_of_entry m v i = record {
     value = i.value;
-    size = record { size_is = i.size };
+    size = sized_in m i.size;
     kind = kind_in m i.type_;
     binding_ = bound_in m i.binding_;
     section = stands_in m v i.section;

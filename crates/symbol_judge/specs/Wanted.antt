@@ -4,8 +4,8 @@ use Rattle.std.specs.List.{slice_get}
 use Rattle.std.specs.Option.{option_map_or}
 use Rattle.elf_model.specs.Link.LinkerValues.{start_of_pieces}
 use Rattle.elf_model.specs.Link.Loading.{LoadedObject}
-use Rattle.elf_model.specs.Link.Meaning.{Common, Linker, Meaning, Symbol, is_in_thread_storage, meaning_size}
-use Rattle.elf_model.specs.Link.Pieces.{is_thread_piece}
+use Rattle.elf_model.specs.Link.Meaning.{Common, Linker, Meaning, Symbol, is_in_thread_storage}
+use Rattle.elf_model.specs.Link.Pieces.{is_alloc, is_thread_piece}
 use Rattle.elf_model.specs.Link.Placement.{Placed, is_of_section}
 use Rattle.elf_model.specs.Link.Resolution.{SymbolOf, binding, is_undefined, symbol_type}
 use Rattle.elf_model.specs.declared.constants.TheConstants.{SHN_ABS, SHN_LORESERVE, STB_LOCAL, STT_NOTYPE, STT_OBJECT}
@@ -33,7 +33,12 @@ block_start placed = unwrap_or (start_of_pieces is_thread_piece placed) 0
 abbrev pub entry_value : List LoadedObject → List Placed → Meaning → ℕ → ℕ
 entry_value objects placed m v = cond (is_in_thread_storage objects m) (v - block_start placed) (v % 2 ^ 64)
 
--- its type and binding, None where it may have any
+-- its size, type and binding, None where it may have any
+abbrev pub size_of : Meaning → Option ℕ
+size_of (Symbol s) = Some s.entry.st_size
+size_of (Common b) = Some b.size
+size_of (Linker name bound) = None
+
 abbrev pub type_of : Meaning → ℕ
 type_of (Symbol s) = symbol_type s.entry
 type_of (Common b) = STT_OBJECT
@@ -48,7 +53,7 @@ abbrev pub wanted_of : List LoadedObject → List Placed → Meaning → ℕ →
 wanted_of objects placed m v = record {
   at = v;
   value = entry_value objects placed m v;
-  size = meaning_size m;
+  size = size_of m;
   kind = type_of m;
   binding = binding_of m;
   anywhere = takes_no_memory placed m;
@@ -60,7 +65,7 @@ abbrev pub is_beyond : List SectionHeader → entry.Symbol → Bool
 is_beyond hs e = e.st_shndx == shn_xindex && nat_le SHN_LORESERVE (length hs)
 
 abbrev pub HasAddress : ℕ → SectionHeader → Type 0
-HasAddress v h = (h.sh_addr ≤ v) × (v ≤ h.sh_addr + h.sh_size)
+HasAddress v h = (is_alloc h ≡ true) × (h.sh_addr ≤ v) × (v ≤ h.sh_addr + h.sh_size)
 
 abbrev pub IsOfSectionIn : List SectionHeader → entry.Symbol → ℕ → Type 0
 IsOfSectionIn hs e v =
@@ -81,8 +86,11 @@ IsBound e b = (binding e ≡ b) ⊎ (binding e ≡ STB_LOCAL)
 pub record HasBinding (e : entry.Symbol) (b : Option ℕ) : Type 0 where
   pub binding_is : IfSome b (IsBound e)
 
-pub record HasSize (e : entry.Symbol) (size : ℕ) : Type 0 where
-  pub size_is : (e.st_size ≡ size) ⊎ (e.st_size ≡ 0)
+abbrev pub IsSized : entry.Symbol → ℕ → Type 0
+IsSized e size = (e.st_size ≡ size) ⊎ (e.st_size ≡ 0)
+
+pub record HasSize (e : entry.Symbol) (size : Option ℕ) : Type 0 where
+  pub size_is : IfSome size (IsSized e)
 
 pub record Fits (hs : List SectionHeader) (e : entry.Symbol) (w : Wanted) : Type 0 where
   pub value : e.st_value ≡ w.value

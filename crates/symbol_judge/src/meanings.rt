@@ -101,14 +101,14 @@ fn is_in_thread_storage(objects: &[Loaded<'_>], meaning: &Meaning<'_>) -> bool
     }
 }
 
-/// The size of a definition in bytes.
-fn size_of(meaning: &Meaning<'_>) -> u64
-    ensures { result ≡ meaning_words.meaning_size (meaning_view meaning.now) }
+/// The size of a definition in bytes; None of a linker's name, which may have any.
+fn size_of(meaning: &Meaning<'_>) -> Option<u64>
+    ensures { result ≡ wanted_words.size_of (meaning_view meaning.now) }
 {
     match meaning {
-        Meaning::Symbol(symbol) => symbol.entry.st_size,
-        Meaning::Common(block) => block.size,
-        Meaning::Linker(_, _) => 0,
+        Meaning::Symbol(symbol) => Some(symbol.entry.st_size),
+        Meaning::Common(block) => Some(block.size),
+        Meaning::Linker(_, _) => None,
     }
 }
 

@@ -1,7 +1,7 @@
 //! What an entry of a symbol table has to be, and whether one is that.
 ghost use Rattle.std.specs.Prelude.{◌≡◌, ◌↔◌, IsTrue};
 ghost use Rattle.elf_model.specs.Link.Resolution.{binding, symbol_type};
-ghost use Rattle.symbol_judge.specs.Wanted.{Fits, HasAddress, HasBinding, HasKind, HasSize, IsBound, IsOfSectionIn, IsOfSomeIn, StandsIn, is_beyond};
+ghost use Rattle.symbol_judge.specs.Wanted.{Fits, HasAddress, HasBinding, HasKind, HasSize, IsBound, IsSized, IsOfSectionIn, IsOfSomeIn, StandsIn, is_beyond};
 
 use elf_model::{SHN_ABS, SHN_LORESERVE, SHN_UNDEF, STB_LOCAL, STT_NOTYPE, SectionHeader, Symbol};
 
@@ -12,22 +12,31 @@ const SHN_XINDEX: u16 = 0xffff;
 pub const VALUES: u128 = 0x1_0000_0000_0000_0000;
 
 /// What an entry has to be: its address, which isn't taken modulo 2^64; its `st_value`, which may be too large for one; its
-/// `st_size` in bytes, its type and its binding, None where it may have any; and whether it may stand in any section.
+/// `st_size` in bytes and its binding, None where it may have any; its type; and whether it may stand in any section.
 #[derive(Clone, Copy, Debug)]
 pub struct Wanted {
     pub at: u128,
     pub value: u128,
-    pub size: u64,
+    pub size: Option<u64>,
     pub kind: u8,
     pub binding: Option<u8>,
     pub anywhere: bool,
 }
 
 /// Whether an entry has a size, or none.
-fn has_size(entry: &Symbol, size: u64) -> bool
-    ensures { IsTrue result ↔ HasSize entry.now size }
+fn is_sized(entry: &Symbol, size: u64) -> bool
+    ensures { IsTrue result ↔ IsSized entry.now size }
 {
     entry.st_size == size || entry.st_size == 0
+}
+
+fn has_size(entry: &Symbol, size: Option<u64>) -> bool
+    ensures { IsTrue result ↔ HasSize entry.now size }
+{
+    match size {
+        Some(size) => is_sized(entry, size),
+        None => true,
+    }
 }
 
 /// Whether an entry is of a type, or of none.
@@ -53,10 +62,13 @@ fn has_binding(entry: &Symbol, binding: Option<u8>) -> bool
     }
 }
 
-/// Whether an address is in a section, or at its end.
+/// Whether an address is in a section that takes up memory, or at its end.
 fn has_address(section: &SectionHeader, at: u128) -> bool
     ensures { IsTrue result ↔ HasAddress at section.now }
 {
+    if !section.is_alloc() {
+        return false;
+    }
     section.sh_addr as u128 <= at && at <= section.sh_addr as u128 + section.sh_size as u128
 }
 

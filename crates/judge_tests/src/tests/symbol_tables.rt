@@ -134,23 +134,25 @@ const TABLE: [Entry; 15] = [
 /// The first six are LOCAL.
 const LOCALS: u32 = 6;
 
-/// Another entry at a number, with which the table is right: no type; no section; a linker's name in any section, and as an object;
-/// an object in a section that has nothing in any section too; no thread-local object; the first entry may be any LOCAL one.
-static RIGHT: [(usize, Entry); 9] = [
+/// Another entry at a number, with which the table is right: no type; no section; a linker's name in any section, as an object, and with
+/// a size; an object in a section that has nothing in any section too; no thread-local object; the first entry may be any LOCAL one.
+static RIGHT: [(usize, Entry); 10] = [
     (6, Entry("main", 0x10, 1, 0x20_10e8, 0)),
     (6, Entry("main", 0x12, ABSOLUTE, 0x20_10e8, 0)),
     (5, Entry("helper", 0x00, 1, 0x20_10ea, 0)),
     (5, Entry("counter", 0x01, 2, 0x20_10f0, 0)),
     (14, Entry("_end", 0x10, 1, 0x20_1100, 0)),
     (14, Entry("_end", 0x21, 4, 0x20_1100, 0)),
+    (14, Entry("_end", 0x11, ABSOLUTE, 0x20_1100, 24)),
     (8, Entry("nothing", 0x11, 4, 0x20_10f4, 0)),
     (11, Entry("main", 0x12, 1, 0x20_10e8, 0)),
     (0, Entry("main", 0x00, 7, 5, 9)),
 ];
 
 /// One with which it isn't: another value, size, type, binding, section, the value of another definition; a LOCAL name with the
-/// value of another name; another address of a LOCAL name, a LOCAL name that isn't LOCAL here.
-static WRONG: [(usize, Entry); 28] = [
+/// value of another name; another address of a LOCAL name, a LOCAL name that isn't LOCAL here; a number in a section
+/// that takes up no memory.
+static WRONG: [(usize, Entry); 29] = [
     (6, Entry("main", 0x12, 1, 0x20_10e9, 0)),
     (6, Entry("main", 0x12, 1, 0x20_10e8, 1)),
     (6, Entry("main", 0x11, 1, 0x20_10e8, 0)),
@@ -171,6 +173,7 @@ static WRONG: [(usize, Entry); 28] = [
     (11, Entry("state", 0x16, 3, 0x20_10f6, 0)),
     (11, Entry("state", 0x16, 3, 0, 0)),
     (12, Entry("number", 0x10, ABSOLUTE, 78, 0)),
+    (12, Entry("number", 0x10, 5, 77, 0)),
     (8, Entry("nothing", 0x11, 0, 0x20_10f4, 0)),
     (8, Entry("nothing", 0x11, 7, 0x20_10f4, 0)),
     (13, Entry("maybe", 0x20, 0, 1, 0)),
