@@ -4,7 +4,7 @@
     tools/judge/certificate.py [--driven] IMAGE PEERMAP WORDS >CERTIFICATE
 
 IMAGE and PEERMAP are that linker's image, with its symbols, and its map (-Map); WORDS are those of our `ld` for the same link,
-which says which objects they load, and in which order; with --driven they are the other linker's own. The certificate is our map of these words with the addresses that PEERMAP
+which says which objects they load, and in which order, unless PEERMAP says it; with --driven they are the other linker's own. The certificate is our map of these words with the addresses that PEERMAP
 and the image's symbols tell. In front it has a line `note ADDRESS SIZE`, in decimal digits, for each note that the linker made, a line
 `area ADDRESS SIZE` for each area of merged strings and constants, and `merged OBJECT SECTION OFFSET SIZE ADDRESS` for each of these. It
 needs no trust: with a wrong one `ld-judge` says no. LD_PROGRAM is our linker, where it isn't crates/ld/out/ld.
@@ -19,6 +19,7 @@ from typing import Dict, Iterator, List, Optional, Set, Tuple
 import elf
 import linkmap
 import merged
+import order
 import peers
 from judge import by_numbers, part, put_commons, put_names, table_address, up
 from skeleton import Skeleton, skeleton
@@ -180,7 +181,9 @@ def certificate(image_path: str, peer_path: str, words: List[str], driven: bool)
         sys.exit(f"certificate.py: {image_path} is no ELF-64 image")
     image = elf.Image(data)
     link.map.places = [place for place in link.map.places if link.section(place).name != PROPERTY]
-    put_places(link, image, peers.read(Path(peer_path).read_text(errors="surrogateescape")))
+    peer_map = Path(peer_path).read_text(errors="surrogateescape")
+    order.put_order(link, peer_map)
+    put_places(link, image, peers.read(peer_map))
     # An image without a symbol table tells by its fields what names are.
     image.values = {**told_by_fields(link, image), **image.values}
     put_commons(link, image)
