@@ -1,3 +1,4 @@
 pub mod MergedLaws
 pub mod Requirements
+pub mod SharedCode
 pub mod Starts

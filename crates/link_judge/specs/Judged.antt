@@ -1,10 +1,13 @@
 -- What a judgement says of a link.
-use Rattle.std.specs.Prelude.{◌≡◌, ◌⊎◌, ℕ, ◌<◌, List, true}
+use Rattle.std.specs.Prelude.{◌≡◌, ◌==◌, ◌⊎◌, ℕ, ◌<◌, Bool, List, [], ◌∷◌, true}
+use Rattle.std.specs.List.{list_any}
 use Rattle.elf_model.specs.Inputs.Files.{File}
+use Rattle.elf_model.specs.Inputs.ObjectFile.{rela_type}
+use Rattle.elf_model.specs.Link.Relocation.{Relocation}
 use Rattle.judge_model.specs.Certificates.{CertificateRecord, IsInOrder}
 use Rattle.judge_model.specs.Headers.{IsProgram}
 use Rattle.judge_model.specs.Loaded.{AreReadable}
-use Rattle.judge_model.specs.Links.{ForeignLink}
+use Rattle.judge_model.specs.Links.{ForeignLink, relocations_of}
 use Rattle.judge_model.specs.Plans.{ForeignPlan}
 use Rattle.judge_model.specs.RightForeign.{Holds, IsJudged, IsShown}
 use Rattle.judge_model.specs.Words.{IsAsked}
@@ -40,6 +43,27 @@ pub record IsFirst (f : Requirement) (l : ForeignLink) : Type 0 where
   pub judged : IsJudged l
   pub before : HoldsBefore f l
 
+-- Code asks for thread-local storage in one of the ways of shared objects (ELF Handling For Thread-Local Storage, "Linker
+-- Optimizations"): a relocation of the image's sections is R_X86_64_TLSGD, R_X86_64_TLSLD, R_X86_64_GOTPC32_TLSDESC or
+-- R_X86_64_TLSDESC_CALL. Linkers rewrite such code, and no rule says yet which fields and bytes are right there.
+abbrev pub shared_thread_kinds : List ℕ
+shared_thread_kinds = 19 ∷ 20 ∷ 34 ∷ 35 ∷ []
+
+abbrev pub is_shared_thread : Relocation → Bool
+is_shared_thread r = list_any (λ k. rela_type r.entry == k) shared_thread_kinds
+
+abbrev pub has_shared_thread_code : ForeignLink → Bool
+has_shared_thread_code l = list_any is_shared_thread (relocations_of l)
+
+abbrev pub HasSharedThreadCode : ForeignLink → Type 0
+HasSharedThreadCode l = has_shared_thread_code l ≡ true
+
+-- F5 and F7 are told only of links without such code.
+abbrev pub IsCodePlain : Requirement → ForeignLink → Type 0
+IsCodePlain F5 l = ¬ HasSharedThreadCode l
+IsCodePlain F7 l = ¬ HasSharedThreadCode l
+IsCodePlain _ l = Unit {0}
+
 -- A requirement that fails is told where it is the first one; F1 is also told of links that aren't judged, F3 where the lines of the
 -- certificate aren't in order, and F12 where the image is no program.
 abbrev pub IsTold : Requirement → ForeignLink → Type 0
@@ -48,9 +72,10 @@ IsTold f l = IsFirst f l ⊎ (f ≡ F1) ⊎ ((f ≡ F3) × (¬ IsInOrder l.certi
 pub record Fails (f : Requirement) (l : ForeignLink) : Type 0 where
   pub fails : ¬ Holds f l
   pub told : IsTold f l
+  pub code : IsCodePlain f l
 
 -- Why a link isn't judged: its words ask for --gc-sections; or a part of IsJudged doesn't hold; or fields or bytes aren't right,
--- which may be as the linker rewrote code of a kind of which no rule says yet whether that is right.
+-- which may be as the linker rewrote code that asks for thread-local storage.
 abbrev pub IsReason : Reason → ForeignLink → Type 0
 IsReason reason.Unused l = l.plan.collects ≡ true
 IsReason reason.Unreadable l = ¬ AreReadable l.files l.plan.plan
@@ -61,7 +86,7 @@ IsReason reason.Joined l = ¬ AreNotesJoined l
 IsReason reason.Mixed l = ¬ AreNamesUnmixed l
 IsReason reason.Fields l = ¬ AreFieldsSound l
 IsReason reason.Frames l = ¬ HasNoFrameTable l
-IsReason reason.Code l = (¬ Holds F5 l) ⊎ (¬ Holds F7 l)
+IsReason reason.Code l = HasSharedThreadCode l × ((¬ Holds F5 l) ⊎ (¬ Holds F7 l))
 
 -- a yes: the link is judged, and all requirements hold
 abbrev pub Judges : Judgement → ForeignLink → Type 0

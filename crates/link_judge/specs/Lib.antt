@@ -1,3 +1,4 @@
 pub mod Inputs
 pub mod Judged
 pub mod Placed
+pub mod Rewritten

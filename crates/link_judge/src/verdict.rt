@@ -12,10 +12,10 @@ ghost use Rattle.judge_model.specs.RightForeign.{Holds, IsJudged};
 ghost use Rattle.judge_model.specs.declared.judgement.Requirement.TheVariants as which;
 ghost use Rattle.foreign_words.specs.Spoken.{IsSpokenBy, IsWhole};
 ghost use Rattle.link_judge.specs.Inputs.{AreInputsSound};
-ghost use Rattle.link_judge.specs.Judged.{HoldsBefore, IsJudgedBy, Judges, link_of};
+ghost use Rattle.link_judge.specs.Judged.{HoldsBefore, IsCodePlain, IsJudgedBy, Judges, link_of};
 
 use crate::judgement::{Judgement, Reason};
-use crate::rewrites::may_be_rewritten;
+use crate::rewrites::has_shared_thread_code;
 use crate::{
     f02_kept, f03_placed, f04_names, f05_fields, f07_rests, f09_threads, f10_nothing_else,
     f11_entry, f12_headers, f13_tables, inputs,
@@ -76,12 +76,14 @@ fn no(requirement: Requirement, claim: &Claim<'_>) -> Judgement
     requires judged { IsJudged claim.now }
     requires before { HoldsBefore requirement claim.now }
     requires fails { ¬ Holds requirement claim.now }
+    requires code { IsCodePlain requirement claim.now }
     ensures { Judges result claim.now }
 {
     Judgement::No(requirement)
 }
 
-/// The answer where fields, or the bytes beside them, aren't right: not judged where that may be as the linker rewrote code.
+/// The answer where fields, or the bytes beside them, aren't right: not judged where that may be as the linker rewrote code that asks
+/// for thread-local storage.
 fn no_code(requirement: Requirement, placed: &PlacedClaim<'_, '_>) -> Judgement
     requires judged { IsJudged placed.now }
     requires before { HoldsBefore requirement placed.now }
@@ -89,7 +91,7 @@ fn no_code(requirement: Requirement, placed: &PlacedClaim<'_, '_>) -> Judgement
     requires code { (requirement ≡ which.F5) ⊎ (requirement ≡ which.F7) }
     ensures { Judges result placed.now }
 {
-    if may_be_rewritten(placed.names().objects()) {
+    if has_shared_thread_code(placed.names().objects(), placed.drops()) {
         return Judgement::NotJudged(Reason::Code);
     }
     no(requirement, placed.claim())

@@ -13,7 +13,7 @@ returns-in_default c =
     let image = ap (λ (x : ForeignLink). x.image) same ∙ sym c.new.ensures in
     let none : ¬ IsProgram c.args.loaded.now.image =
     λ p. false≢true (subst IsSome c.in_default.is (c.in_ok-image.ensures.program.1 (subst IsProgram image p))) in
-    record { fails = λ h. none h.program; told = inr (inr (inr (refl, none))) }
+    record { fails = λ h. none h.program; told = inr (inr (inr (refl, none))); code = tt }
 
 pub returns-then-not-has_no_frame_table : goal.returns-then-not-has_no_frame_table
 returns-then-not-has_no_frame_table c =
