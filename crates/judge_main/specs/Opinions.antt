@@ -1,5 +1,5 @@
 -- What `ld-judge` says of a link by the words of another linker's command, its exit status, and what is printed.
-use Rattle.std.specs.Prelude.{◌≡◌, ◌⊎◌, ◌≤◌, ℕ, List, ◌∷◌, [], ◌++◌, Option, codes}
+use Rattle.std.specs.Prelude.{◌≡◌, ◌⊎◌, ◌≤◌, ℕ, List, ◌∷◌, [], ◌++◌, OnOk, Option, codes}
 use Rattle.std.specs.Fmt.{decimal}
 use Rattle.std.specs.Io.KnownBytes.{Appends}
 use Rattle.elf_model.specs.Inputs.Files.{File}
@@ -12,6 +12,7 @@ use Rattle.link_judge.specs.declared.judgement.Judgement.{Judgement}
 use Rattle.link_judge.specs.declared.judgement.Judgement.TheVariants as judgement
 use Rattle.link_judge.specs.declared.judgement.Reason.{Reason}
 use Rattle.link_judge.specs.declared.judgement.Reason.TheVariants as reason
+use Rattle.judge_main.specs.declared.answer.Answer.{Answer}
 use Rattle.judge_main.specs.declared.opinion.Opinion.{Opinion}
 use Rattle.judge_main.specs.declared.opinion.Opinion.TheVariants.{OtherWords, Right, Unjudged, Wrong}
 
@@ -19,22 +20,19 @@ use Rattle.judge_main.specs.declared.opinion.Opinion.TheVariants.{OtherWords, Ri
 abbrev pub HasRightForeign : List (List ℕ) → Type 0
 HasRightForeign words = (files : List File) × ((image : List ℕ) × IsRightForeign files words image)
 
--- a judgement of some files, an image and a certificate, by words
-abbrev pub JudgesSome : List (List ℕ) → Judgement → Type 0
-JudgesSome words j =
-    (files : List File) × (image : List ℕ) × (certificate : CertificateRecord) × IsJudgedBy words files image certificate j
-
--- what is said where a link is judged, and that its words are none that are judged
+-- what is said where a link is judged
 abbrev pub opinion_of : Judgement → Opinion
 opinion_of judgement.Yes = Right
 opinion_of (judgement.No f) = Wrong f
 opinion_of (judgement.NotJudged r) = Unjudged r
 
-abbrev pub IsOpinion : List (List ℕ) → Opinion → Type 0
-IsOpinion words Right = JudgesSome words judgement.Yes
-IsOpinion words (Wrong f) = JudgesSome words (judgement.No f)
-IsOpinion words (Unjudged r) = JudgesSome words (judgement.NotJudged r)
-IsOpinion words OtherWords = (p : ForeignPlan) → IsAsked words p → ⊥
+-- an opinion is one of files, an image and a certificate by words: what the judgement of these says; or that the words are none that
+-- are judged
+abbrev pub IsOpinion : List (List ℕ) → List File → List ℕ → CertificateRecord → Opinion → Type 0
+IsOpinion words files image certificate Right = IsJudgedBy words files image certificate judgement.Yes
+IsOpinion words files image certificate (Wrong f) = IsJudgedBy words files image certificate (judgement.No f)
+IsOpinion words files image certificate (Unjudged r) = IsJudgedBy words files image certificate (judgement.NotJudged r)
+IsOpinion words files image certificate OtherWords = (p : ForeignPlan) → IsAsked words p → ⊥
 
 -- the exit statuses, and the lines
 abbrev pub opinion_status : Opinion → ℕ
@@ -65,6 +63,18 @@ opinion_text (Unjudged r) = codes "not judged: " ++ subject r ++ 10 ∷ []
 abbrev pub IsSaid : ℕ → Type 0
 IsSaid status = (status ≤ 1) ⊎ (status ≡ 5)
 
--- what is said of a link by words is printed, with its status
-abbrev pub Prints : List (List ℕ) → ℕ → Option (List ℕ) → Option (List ℕ) → Type 0
-Prints words status old new = (o : Opinion) × IsOpinion words o × (status ≡ opinion_status o) × Appends old new (opinion_text o)
+-- an answer says an opinion of files, an image and a certificate by words: it has its status, and its line is printed
+pub record Says (words : List (List ℕ)) (files : List File) (image : List ℕ) (certificate : CertificateRecord) (a : Answer) (old new : Option (List ℕ)) :
+    Type 0 where
+  pub opinion : Opinion
+  pub judged : IsOpinion words files image certificate opinion
+  pub status_is : a.status ≡ opinion_status opinion
+  pub line : OnOk a.printed (Appends old new (opinion_text opinion))
+
+-- it says one of a certificate with some files and an image
+abbrev pub SaysWith : List (List ℕ) → CertificateRecord → Answer → Option (List ℕ) → Option (List ℕ) → Type 0
+SaysWith words certificate a old new = (files : List File) × (image : List ℕ) × Says words files image certificate a old new
+
+-- it says one of some files, an image and a certificate
+abbrev pub SaysSome : List (List ℕ) → Answer → Option (List ℕ) → Option (List ℕ) → Type 0
+SaysSome words a old new = (certificate : CertificateRecord) × SaysWith words certificate a old new

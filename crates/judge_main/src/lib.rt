@@ -4,9 +4,12 @@
 //! Begin with `run`.
 #![tactic(auto)]
 
+mod answer;
 mod certificate;
 mod fault;
+mod given;
 mod opinion;
 mod program;
 
+pub use answer::Answer;
 pub use program::{run, run_args};

@@ -5,5 +5,6 @@ use judge_main::run_args;
 use std::process::ExitCode;
 
 fn main(rt: HostRuntime) -> ExitCode {
-    ExitCode::from(run_args(&rt, &mut rt.stdout(), &mut rt.stderr()))
+    let answer = run_args(&rt, &mut rt.stdout(), &mut rt.stderr());
+    ExitCode::from(answer.status)
 }
