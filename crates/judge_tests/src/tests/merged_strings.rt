@@ -11,13 +11,30 @@ use link_judge::{Judgement, Reason, judge};
 use std::alloc::{AllocError, Global};
 use std::test::Fail;
 
-/// The strings of the objects: "ab" and "xyz"; "xyz", "q" and an empty one. Their constants of eight bytes. Where in the strings the
-/// LOCAL symbol of each is.
-const STRINGS: [&[u8; 7]; 2] = [b"ab\0xyz\0", b"xyz\0q\0\0"];
+/// An object: its strings, its constants of eight bytes, where in the strings its LOCAL symbol is, and the name of its function.
+#[derive(Clone, Copy)]
+struct Input {
+    strings: &'static [u8; 7],
+    constants: [u64; 2],
+    symbol: u64,
+    function: &'static str,
+}
 
-const CONSTANTS: [[u64; 2]; 2] = [[1, 2], [2, 3]];
+/// "ab" and "xyz".
+const FIRST: Input = Input {
+    strings: b"ab\0xyz\0",
+    constants: [1, 2],
+    symbol: 3,
+    function: "main",
+};
 
-const SYMBOLS: [u64; 2] = [3, 4];
+/// "xyz", "q" and an empty one.
+const SECOND: Input = Input {
+    strings: b"xyz\0q\0\0",
+    constants: [2, 3],
+    symbol: 4,
+    function: "second",
+};
 
 /// The three fields of each object's code, of four bytes: the address of its symbol and one; that of the byte at offset 3 of its
 /// strings, as the section and an addend; that of its second constant, in the same way.
@@ -223,9 +240,9 @@ const OTHER_NAME: Row = Row {
     ..RIGHT
 };
 
-/// The bytes of object `k`. Behind its file header are its code, its strings and constants, and the relocations of its code; its
+/// The bytes of an object. Behind its file header are its code, its strings and constants, and the relocations of its code; its
 /// section headers are its last bytes.
-fn object_of(alloc: Global, row: &Row, k: usize) -> Result<Vec<u8>, Fail> {
+fn object_of(alloc: Global, row: &Row, input: &Input) -> Result<Vec<u8>, Fail> {
     let parts = [
         Part(".text", SHT_PROGBITS, SHF_ALLOC + SHF_EXECINSTR, 1, 16),
         Part(
@@ -241,18 +258,18 @@ fn object_of(alloc: Global, row: &Row, k: usize) -> Result<Vec<u8>, Fail> {
         Part(".rela.text", SHT_RELA, 0, 8, 24),
     ];
     let symbols = [
-        Named("here", 0, 2, SYMBOLS[k]),
+        Named("here", 0, 2, input.symbol),
         Named("", 3, 2, 0),
         Named("", 3, 3, 0),
-        Named(if k == 0 { "main" } else { "second" }, 0x12, 1, 0),
+        Named(input.function, 0x12, 1, 0),
     ];
     let mut bytes = object(alloc, &parts, &symbols)?;
     let headers = bytes.len().saturating_sub(10 * 64);
-    for (at, byte) in STRINGS[k].iter().enumerate() {
-        put(&mut bytes, 80 + at, *byte as u64, 1);
+    for (at, byte) in input.strings.iter().enumerate() {
+        put(&mut bytes, at.saturating_add(80), *byte as u64, 1);
     }
-    put(&mut bytes, 87, CONSTANTS[k][0], 8);
-    put(&mut bytes, 95, CONSTANTS[k][1], 8);
+    put(&mut bytes, 87, input.constants[0], 8);
+    put(&mut bytes, 95, input.constants[1], 8);
     put(&mut bytes, headers.saturating_add(2 * 64 + 56), 1, 8);
     put(&mut bytes, headers.saturating_add(3 * 64 + 56), 8, 8);
     put_entry(&mut bytes, headers, 0, 1);
@@ -285,11 +302,11 @@ fn files(alloc: Global, row: &Row) -> Result<Vec<InputFile>, Fail> {
     let mut files = Vec::new(alloc);
     files.push(InputFile {
         name: String::from_str(alloc, "a.o")?,
-        bytes: object_of(alloc, row, 0)?,
+        bytes: object_of(alloc, row, &FIRST)?,
     })?;
     files.push(InputFile {
         name: String::from_str(alloc, "b.o")?,
-        bytes: object_of(alloc, row, 1)?,
+        bytes: object_of(alloc, row, &SECOND)?,
     })?;
     Ok(files)
 }
