@@ -1,7 +1,6 @@
 """The order in which another linker loaded the objects of a link: GNU ld and gold list archive members at the head of their maps. Weak
 definitions of one name make it count, since the first one is meant. Nothing here needs trust: of a wrong order `ld-judge` says no."""
 
-import re
 from typing import Dict, List, Tuple
 
 import elf
@@ -10,8 +9,6 @@ from skeleton import Skeleton
 # What the list begins with: 'Archive member included to satisfy reference by file (symbol)' or 'included because of file (symbol)'. Behind a
 # member, or on the next line, is the file that asked for it, with the symbol.
 HEAD = "Archive member included"
-MEMBER = re.compile(r"(\S.*?\))(?:\s.*)?$")
-SYMBOL = re.compile(r"\s.* \((\S+)\)$")
 
 
 def members(text: str) -> List[Tuple[str, str]]:
@@ -24,11 +21,12 @@ def members(text: str) -> List[Tuple[str, str]]:
     for line in lines:
         if not line:
             return found
-        member, symbol = MEMBER.match(line), SYMBOL.search(line)
-        if member and not line[0].isspace():
-            found.append((member[1], ""))
-        if symbol and found:
-            found[-1] = (found[-1][0], symbol[1])
+        if not line[0].isspace():
+            label, end, asker = line.partition(") ")
+            found.append((label + end.strip(), ""))
+            line = asker
+        if found and line.endswith(")"):
+            found[-1] = (found[-1][0], line.rpartition(" (")[2][:-1])
     return found
 
 

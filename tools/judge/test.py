@@ -18,6 +18,7 @@ sys.dont_write_bytecode = True
 HERE = Path(__file__).resolve().parent
 sys.path.insert(0, str(HERE))
 
+import order  # noqa: E402
 import peers  # noqa: E402
 import script  # noqa: E402
 
@@ -130,6 +131,23 @@ class Maps(unittest.TestCase):
         begin = time.process_time()
         peers.of_table([self.HEAD + "a:(" * 100_000, self.HEAD + ":(" * 100_000 + ")", " " * 300_000], peers.LLD_LINE, 16)
         peers.of_bfd(["Linker script and memory map", " " * 300_000, " a" * 100_000, " " + "a" * 300_000])
+        self.assertLess(time.process_time() - begin, 2)
+
+
+class Orders(unittest.TestCase):
+    HEAD = "Archive member included to satisfy reference by file (symbol)"
+
+    def test_members_have_the_symbols_for_which_they_were_loaded(self):
+        lines = [self.HEAD, "", "lib.a(f.o)             main.o (f)", "dir/lib.a(g.o)", "                              lib.a(f.o) (g)", "", "x (y)"]
+        self.assertEqual(order.members("\n".join(lines)), [("lib.a(f.o)", "f"), ("dir/lib.a(g.o)", "g")])
+
+    def test_maps_without_a_list_tell_no_order(self):
+        self.assertEqual(order.members("Memory map\n\nlib.a(f.o) main.o (f)\n"), [])
+        self.assertEqual(order.members(""), [])
+
+    def test_long_lines_take_no_time(self):
+        begin = time.process_time()
+        order.members("\n".join([self.HEAD, "", "a) " * 100_000, " a" * 100_000 + ")", " (" * 100_000 + ")", ") (" * 100_000]))
         self.assertLess(time.process_time() - begin, 2)
 
 
