@@ -1,5 +1,5 @@
 -- Hexadecimal digits: the readers of 1, 2, 4, 8 and 16 digits take just their spellings.
-use Rattle.std.proofs.Common.{◌≡◌, ℕ, ◌+◌, ◌*◌, ◌-◌, ◌/◌, ◌%◌, ◌^◌, ◌<◌, ◌≤◌, Bool, true, false, cond, leb, List, [], ◌∷◌, ◌++◌, Option, Some, None, refl, sym, ap, subst, arith, codes}
+use Rattle.std.proofs.Common.{◌≡◌, ℕ, ◌+◌, ◌*◌, ◌-◌, ◌/◌, ◌%◌, ◌^◌, ◌<◌, ◌≤◌, Bool, true, false, cond, leb, List, [], ◌∷◌, ◌++◌, Option, Some, None, refl, ap, subst, arith, codes}
 use Rattle.std.specs.Prelude.{◌&&◌}
 use Rattle.std.proofs.lemmas.Bool.{leb-true, and_parts}
 use Rattle.std.proofs.lemmas.Bool.Decides.{nat_tests}
@@ -91,11 +91,6 @@ quad-IsParser = halves-IsParser 256 pair pair_at pair-IsParser (omega arith)
 word-IsParser : IsParser word (Below (2 ^ 32)) word_at
 unfolding word word_at
 word-IsParser = halves-IsParser 65536 quad quad_at quad-IsParser (omega arith)
-
--- eight zeros are the number 0
-pub zero_word : (rest : List ℕ) → Some (0, rest) ≡ word_at (codes "00000000" ++ rest)
-unfolding word quad pair
-zero_word rest = sym (word-IsParser.again 0 rest (omega arith))
 
 hex-IsParser : IsParser hex (Below (2 ^ 64)) hex_at
 unfolding hex hex_at

@@ -72,21 +72,11 @@ fn read_word(bytes: &[u8]) -> Option<(u32, &[u8])>
     Some((u32::from(high) * 65536 + u32::from(low), rest))
 }
 
-/// The same, of a number that is mostly 0.
-fn read_high_word(bytes: &[u8]) -> Option<(u32, &[u8])>
-    ensures { option_map (λ x. (x.0, x.1.now)) result ≡ reading.word_at bytes.now }
-{
-    match strip(bytes, b"00000000") {
-        Some(rest) => Some((0, rest)),
-        None => read_word(bytes),
-    }
-}
-
 #[tactic(auto, unfolding(crate::specs::Reading::hex_at))]
 fn read_hex(bytes: &[u8]) -> Option<(u64, &[u8])>
     ensures { option_map (λ x. (x.0, x.1.now)) result ≡ reading.hex_at bytes.now }
 {
-    let (high, rest) = read_high_word(bytes)?;
+    let (high, rest) = read_word(bytes)?;
     let (low, rest) = read_word(rest)?;
     Some((u64::from(high) * 4294967296 + u64::from(low), rest))
 }
@@ -190,22 +180,11 @@ fn put_word(out: &mut Vec<u8>, n: u32) -> Result<(), AllocError>
     Ok(())
 }
 
-/// The same, of a number that is mostly 0.
-#[tactic(auto, unfolding(elf_model::specs::Image::MapText::word, elf_model::specs::Image::MapText::quad, elf_model::specs::Image::MapText::pair))]
-fn put_high_word(out: &mut Vec<u8>, n: u32) -> Result<(), AllocError>
-    ensures { OnOk result (out.new.items ≡ out.old.items ++ word n) }
-{
-    if n != 0 {
-        return put_word(out, n);
-    }
-    out.extend_from_slice(b"00000000")
-}
-
 #[tactic(auto, unfolding(elf_model::specs::Image::MapText::hex))]
 fn put_hex(out: &mut Vec<u8>, n: u64) -> Result<(), AllocError>
     ensures { OnOk result (out.new.items ≡ out.old.items ++ hex n) }
 {
-    put_high_word(out, (n / 4294967296) as u32)?;
+    put_word(out, (n / 4294967296) as u32)?;
     put_word(out, (n % 4294967296) as u32)?;
     Ok(())
 }
