@@ -1,8 +1,8 @@
 -- Patches that are apart, in the order of their places, end in that order too.
-use Rattle.std.proofs.Common.{◌≡◌, ℕ, ◌-◌, ◌<◌, ◌≤◌, Bool, true, false, List, [], ◌∷◌, None, Some, cond, get_or, length, nat_le, nat_lt, refl, subst, sym, arith}
+use Rattle.std.proofs.Common.{◌≡◌, ℕ, ◌<◌, ◌≤◌, Bool, true, false, List, [], ◌∷◌, None, Some, cond, get_or, length, nat_lt, refl, subst, sym, arith}
 use Rattle.std.specs.Prelude.{All, AllPairs, IsSome, find}
 use Rattle.std.specs.List.Sorted.{IsNonDecreasingBy}
-use Rattle.std.proofs.lemmas.Bool.{leb-false, ltb-false, ltb-true}
+use Rattle.std.proofs.lemmas.Bool.{ltb-false, ltb-true}
 use Rattle.std.proofs.lemmas.List.{get_or_default}
 use Rattle.std.proofs.lemmas.List.Elements.{All-nil}
 use Rattle.std.proofs.lemmas.List.Sorted.{All-permutation}
@@ -60,21 +60,3 @@ none_earlier row d k rising before =
 pub first_has : (row : List Patch) (d : Patch) (k : ℕ) → 0 < length row → (get_or row 0 d).at ≤ k → k < end_of (get_or row 0 d) → IsSome (find (covers k) row)
 first_has [] d k some low high = absurd (omega (arith, some))
 first_has (p ∷ ps) d k some low high = subst (λ (b : Bool). IsSome (cond b (Some p) (find (covers k) ps))) (sym (is_covered k p low high)) refl
-
--- what stands in place of a patch past the end of a row
-abbrev no_patch : Patch
-no_patch = record { value = 0; at = 0; width = 0 }
-
--- where the first field of a row ends behind a byte, all do; where the last one begins before a byte, all do
-module _ (row : List Patch) (byte k : ℕ) (d : Patch) (within : k < length row) where
-  pub all_end_behind : IsNonDecreasingBy end_of row → false ≡ nat_le (end_of (get_or row 0 no_patch)) byte → byte < end_of (get_or row k d)
-  all_end_behind up first =
-      let low = leb-false (end_of (get_or row 0 no_patch)) byte (sym first) in
-      let rise = up 0 k no_patch (omega arith) within in
-      subst (λ (p : Patch). byte < end_of p) (get_or_default row k no_patch d within) (omega (arith, low, rise))
-
-  pub all_begin_before : IsNonDecreasingBy begin_of row → true ≡ nat_lt (begin_of (get_or row (length row - 1) no_patch)) byte → begin_of (get_or row k d) < byte
-  all_begin_before up last =
-      let high = ltb-true (begin_of (get_or row (length row - 1) no_patch)) byte (sym last) in
-      let rise = up k (length row - 1) no_patch (omega (arith, within)) (omega (arith, within)) in
-      subst (λ (p : Patch). begin_of p < byte) (get_or_default row k no_patch d within) (omega (arith, high, rise))

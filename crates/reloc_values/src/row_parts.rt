@@ -28,9 +28,6 @@ fn count_ended(row: &[Patch], byte: u64) -> usize
     ensures not_yet { (k : ℕ) (d : Patch) →
         result ≤ k → k < length row.now → byte < end_of (slice_index_or row.now k d) }
 {
-    if !row.is_empty() && !ends_by(&row[0], byte) {
-        return 0;
-    }
     row.partition_point(|patch| ends_by(patch, byte))
 }
 
@@ -43,9 +40,6 @@ fn count_begun(row: &[Patch], from: u64, count: usize) -> usize
     ensures not_yet { (k : ℕ) (d : Patch) →
         result ≤ k → k < length row.now → from + count ≤ begin_of (slice_index_or row.now k d) }
 {
-    if !row.is_empty() && begins_in(&row[row.len() - 1], from, count) {
-        return row.len();
-    }
     row.partition_point(|patch| begins_in(patch, from, count))
 }
 

@@ -4,7 +4,6 @@ use Rattle.std.proofs.lemmas.Bool.{ltb-true, ltb-false}
 use Rattle.std.proofs.lemmas.List.Sorted.{IsPartitionPoint-from_clause, IsPartitionedBy-ltb}
 use Rattle.reloc_values.specs.Patches.{begin_of}
 use Rattle.reloc_values.specs.declared.patch.Patch.{Patch}
-use Rattle.reloc_values.proofs.RisingRows.{all_begin_before}
 use Rattle.reloc_values.proofs.row_parts.count_begun.Goals as goal
 
 pub returns-clause-begun : goal.returns-clause-begun
@@ -20,7 +19,3 @@ returns-clause-not_yet c = λ k d from within.
     IsPartitionPoint-from_clause (λ (p : Patch). nat_lt (begin_of p) (c.args.from + c.args.count)) c.args.row.now _ c.partition_point.ensures.partitioned
     (IsPartitionedBy-ltb begin_of c.args.row.now (c.args.from + c.args.count) c.requires) (λ a r q k. search rules) in
     ltb-false _ _ (point.1 k d from within)
-
-pub returns-then-begins_in-clause-begun : goal.returns-then-begins_in-clause-begun
-returns-then-begins_in-clause-begun c = λ k d below.
-    all_begin_before c.args.row.now (c.args.from + c.args.count) k d below c.requires c.if-begins_in.ensures

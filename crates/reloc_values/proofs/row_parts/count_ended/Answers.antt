@@ -4,7 +4,6 @@ use Rattle.std.proofs.lemmas.Bool.{leb-true, leb-false}
 use Rattle.std.proofs.lemmas.List.Sorted.{IsPartitionPoint-from_clause, IsPartitionedBy-leb}
 use Rattle.reloc_values.specs.Patches.{end_of}
 use Rattle.reloc_values.specs.declared.patch.Patch.{Patch}
-use Rattle.reloc_values.proofs.RisingRows.{all_end_behind}
 use Rattle.reloc_values.proofs.row_parts.count_ended.Goals as goal
 
 pub returns-clause-ended : goal.returns-clause-ended
@@ -20,7 +19,3 @@ returns-clause-not_yet c = λ k d from within.
     IsPartitionPoint-from_clause (λ (p : Patch). nat_le (end_of p) c.args.byte) c.args.row.now _ c.partition_point.ensures.partitioned
     (IsPartitionedBy-leb end_of c.args.row.now c.args.byte c.requires) (λ a r q k. search rules) in
     leb-false _ _ (point.1 k d from within)
-
-pub returns-then-not-ends_by-clause-not_yet : goal.returns-then-not-ends_by-clause-not_yet
-returns-then-not-ends_by-clause-not_yet c = λ k d from within.
-    all_end_behind c.args.row.now c.args.byte k d within c.requires c.if-not-ends_by.ensures
