@@ -3,12 +3,10 @@ use Rattle.std.proofs.Common.{◌≡◌, ℕ, zero, suc, Bool, true, false, cond
 use Rattle.std.specs.Prelude.{Option, Some, map, option_map}
 use Rattle.std.specs.List.{list_any, slice_get}
 use Rattle.std.proofs.lemmas.List.{append-nil, map-append}
-use Rattle.std.proofs.lemmas.Map.Keys.{any_passes_from_place}
 use Rattle.elf_model.specs.Own.OwnLayout.{leaders}
 use Rattle.elf_model.specs.Link.Pieces as pieces
 use Rattle.elf_model.specs.Link.Pieces.{same_output}
 use Rattle.elf_model.proofs.SameOutput.{alike, both_ways_equal, same_from_alike}
-use Rattle.resolve.specs.OutputNumbers.{HasNumber}
 use Rattle.resolve.specs.OutputSections.{AreOutputsOf, Output, output_at, output_of, output_view}
 use Rattle.resolve.specs.declared.output_sections.OutputSection.{OutputSection}
 use Rattle.resolve.proofs.Leaders.{has_leader, leaders_lead, leaders_push}
@@ -140,13 +138,3 @@ outputs_step eq decides keys new ns v k i done q of_q grown there is are = recor
       (ap (option_map output_view) there ∙ ap (λ (o : Output). Some o) (sym ((decides v k).0 is) ∙ of_q))
       ∙ sym (map-append (λ (p : pieces.Piece). Some (output_of p)) done (q ∷ []));
 }
-
--- one more piece, whose output section has a number
-pub outputs_again :
-    (eq : OutputSection → OutputSection → Bool) → Compares eq → (keys : List OutputSection) (ns : List ℕ) (v : OutputSection) (i : ℕ)
-    (done : List pieces.Piece) (q : pieces.Piece) → output_view v ≡ output_of q → HasNumber keys v i → AreOutputsOf done keys ns →
-    AreOutputsOf (done ++ q ∷ []) keys (ns ++ i ∷ [])
-outputs_again eq decides keys ns v i done q of_q has are =
-    let is : eq v has.known ≡ true = (decides v has.known).1 has.same in
-    let among : list_any (eq v) keys ≡ true = any_passes_from_place (eq v) keys i has.known has.there is in
-    outputs_step eq decides keys keys ns v has.known i done q of_q (sym (ap (λ (b : Bool). cond b keys (keys ++ v ∷ [])) among)) has.there is are

@@ -4,7 +4,6 @@ pub mod Defined
 pub mod Left
 pub mod Meaning
 pub mod Offered
-pub mod OutputNumbers
 pub mod OutputSections
 pub mod Outputs
 pub mod Owned

@@ -1,12 +1,11 @@
 //! The output sections of the kept sections of all objects, by first appearance, and which one each kept section is of: a
 //! name is read and looked up once a section, and is a number after that.
-ghost use Rattle.std.specs.Prelude.{◌≡◌, ◌++◌, ◌∷◌, [], List, IfOk, IfSome, OnOk, unwrap_or};
+ghost use Rattle.std.specs.Prelude.{◌≡◌, ◌++◌, ◌∷◌, [], List, IfOk, OnOk, unwrap_or};
 ghost use Rattle.elf_model.specs.Inputs.ObjectFile.{section_name, sections};
 ghost use Rattle.elf_model.specs.Link.Pieces as pieces;
 ghost use Rattle.elf_model.specs.Link.Pieces.{Piece};
 ghost use Rattle.search.specs.Views.{loaded_view, loaded_views};
 ghost use Rattle.search.specs.KeptLists.{piece_at};
-ghost use Rattle.resolve.specs.OutputNumbers.{HasNumber};
 ghost use Rattle.resolve.specs.OutputSections.{AreOutputSections, AreOutputsOf, output_of, output_view};
 
 use crate::output_names::output_name;
@@ -58,22 +57,6 @@ fn output_section_of<'a>(
     }
 }
 
-/// The last one of the numbers, where this is the output section that has it: mostly that of the section before.
-fn last_number(
-    index: &IndexSet<OutputSection<'_>, NameSeed>,
-    numbers: &[usize],
-    section: &OutputSection<'_>,
-) -> Option<usize>
-    ensures { IfSome result (λ n. HasNumber index.now.keys section.now n) }
-{
-    let number = *numbers.last()?;
-    let last = index.get_index(number)?;
-    if section != last {
-        return None;
-    }
-    Some(number)
-}
-
 /// Puts the number of an output section behind the numbers, which is the next one where it is new.
 fn add_output<'a>(
     index: &mut IndexSet<OutputSection<'a>, NameSeed>,
@@ -85,10 +68,6 @@ fn add_output<'a>(
         → AreOutputsOf done index.old.keys numbers.old.items
         → AreOutputsOf (done ++ p ∷ []) index.new.keys numbers.new.items) }
 {
-    if let Some(number) = last_number(index, numbers, &section) {
-        numbers.push(number)?;
-        return Ok(());
-    }
     let (number, _is_new) = index.insert_full(section)?;
     numbers.push(number)?;
     Ok(())
