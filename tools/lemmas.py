@@ -39,7 +39,7 @@ LAYERS = {
         "Definitions and their places": "ChosenLaws ChosenPlaces Located NamedNumbers NamedOnce Offers PlacesByNumber"
         " Takings ThreadFlags",
         "Common blocks and the linker's own names": "ArrayNames BlockNames LeftNames",
-        "Output sections": "GatheringNames Leaders NamedOutputs OutputKeys OutputSteps SectionWalks",
+        "Output sections": "Leaders NamedOutputs OutputKeys OutputSteps SectionWalks",
     },
     "debug_image": {
         "Sections of memory": "FirstSections MappedImages MappedRows MappedRuns OwnHeaders Runs SectionSteps",
@@ -48,7 +48,7 @@ LAYERS = {
         "Tables and the file": "LinkImages LinkTables PlainParts PlainSteps RowSteps",
     },
     "layout": {
-        "Pieces and their output sections": "Alignments ArrayNames ArraySteps GotPieces GroupSteps Leading OrderSteps PartSteps"
+        "Pieces and their output sections": "Alignments ArraySteps GotPieces GroupSteps Leading OrderSteps PartSteps"
         " PieceEntries",
         "Addresses and segments": "EndSteps Entries LaidSteps OwnAddresses",
         "Bounds": "ExtentSteps OtherPlaces OwnBounds PlaceSteps",

@@ -1,5 +1,4 @@
 pub mod Alignments
-pub mod ArrayNames
 pub mod ArraySteps
 pub mod EndSteps
 pub mod ExtentSteps

@@ -8,7 +8,6 @@ ghost use Rattle.layout.specs.Arrays.{has_number};
 ghost use Rattle.placing.specs.Views.{borrowed_views, piece_view};
 
 use placing::Piece;
-use resolve::second_byte;
 use std::alloc::{AllocError, Global};
 
 /// The rank of sections without a number: above all numbers of five digits.
@@ -47,15 +46,10 @@ fn is_short_number(bytes: &[u8]) -> bool
     are_digits(bytes)
 }
 
-/// Whether a name begins as those of numbered sections do. The second byte tells most names apart.
-#[tactic(auto, using(crate::proofs::ArrayNames::no_prefix))]
+/// Whether a name begins as those of numbered sections do.
 fn is_array_prefixed(name: &[u8]) -> bool
     ensures { result ≡ order.is_array_prefixed name.now }
 {
-    let letter = second_byte(name);
-    if letter != b'i' && letter != b'f' {
-        return false;
-    }
     name.starts_with(b".init_array.") || name.starts_with(b".fini_array.")
 }
 

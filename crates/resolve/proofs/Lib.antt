@@ -1,6 +1,5 @@
 pub mod ChosenLaws
 pub mod Gathered
-pub mod GatheringNames
 mod LeftNames
 pub mod KeptSteps
 pub mod Located

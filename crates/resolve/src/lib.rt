@@ -32,7 +32,7 @@ pub use definition::Definition;
 pub use definitions::Definitions;
 pub use entries::{SymbolOf, is_dropped};
 pub use faults::ResolveFault;
-pub use output_names::{output_name, second_byte};
+pub use output_names::output_name;
 pub use output_sections::{OutputSection, OutputSections};
 pub use resolved::{Resolved, resolve, resolve_in};
 pub use soundness::{is_sound, is_sound_common};

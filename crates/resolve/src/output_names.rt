@@ -1,30 +1,14 @@
 //! The names of output sections.
-ghost use Rattle.std.specs.Prelude.{◌≡◌, ◌≤◌, ◌||◌, length, nat_eq, slice_index};
+ghost use Rattle.std.specs.Prelude.{◌≡◌, ◌||◌, nat_eq};
 ghost use Rattle.std.specs.List.{starts_with};
 ghost use Rattle.std.specs.Str.{bytes_eq};
 ghost use Rattle.elf_model.specs.Link.Pieces as pieces;
 
-/// The second byte of a name; 0 where it has none.
-pub fn second_byte(name: &[u8]) -> u8
-    ensures { result ≡ slice_index name.now 1 }
-{
-    match name.get(1) {
-        Some(byte) => *byte,
-        None => 0,
-    }
-}
-
-/// Whether a name is a gathering one, or begins with it and a dot. The second byte tells most names apart.
-#[tactic(auto, using(crate::proofs::GatheringNames::neither))]
+/// Whether a name is a gathering one, or begins with it and a dot.
 fn is_either(name: &[u8], gathering: &[u8], with_dot: &[u8]) -> bool
-    requires dotted { slice_index with_dot.now 1 ≡ slice_index gathering.now 1 }
-    requires long { 2 ≤ length with_dot.now }
     ensures { result ≡ (bytes_eq name.now gathering.now
         || starts_with nat_eq name.now with_dot.now) }
 {
-    if second_byte(name) != second_byte(gathering) {
-        return false;
-    }
     name == gathering || name.starts_with(with_dot)
 }
 
