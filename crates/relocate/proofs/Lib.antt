@@ -15,5 +15,4 @@ pub mod LinkerMeanings
 pub mod LocalReferences
 pub mod ShortFields
 pub mod SymbolTables
-pub mod NearValues
 pub mod PlainFields

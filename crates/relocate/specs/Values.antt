@@ -1,11 +1,11 @@
 -- The values that relocations want in a layout, as patches, and why there are none.
-use Rattle.std.specs.Prelude.{◌≡◌, ◌==◌, ◌+◌, ◌%◌, ◌^◌, ◌<◌, ℕ, Bool, List, [], Some, All, IsSome, filter, find, length, map, option_map, slice_index, pos, slice_index_or, slice_range, unwrap_or}
+use Rattle.std.specs.Prelude.{◌≡◌, ◌==◌, ◌+◌, ◌%◌, ◌^◌, ◌<◌, ℕ, Bool, List, [], Some, All, IsSome, filter, find, length, map, option_map, slice_index, slice_index_or, slice_range, unwrap_or}
 use Rattle.std.specs.List.{slice_get}
 use Rattle.elf_model.specs.Link.Loading.{LoadedObject}
 use Rattle.elf_model.specs.Own.OwnLayout.{OwnValuesFit, own_where}
-use Rattle.elf_model.specs.Link.Placement.{Where, section_address}
-use Rattle.elf_model.specs.Link.Relocation.{AreLawfulRelocations, Kind, Relocation, S+A-P, Signed, Terms, is_in_field, relocation_kind, relocations, relocations_from, width_of}
-use Rattle.elf_model.specs.Link.RelocationValues.{Fits, used_value, value_of}
+use Rattle.elf_model.specs.Link.Placement.{Where}
+use Rattle.elf_model.specs.Link.Relocation.{AreLawfulRelocations, Relocation, is_in_field, relocation_kind, relocations, relocations_from, width_of}
+use Rattle.elf_model.specs.Link.RelocationValues.{Fits, value_of}
 use Rattle.elf_model.specs.Link.Slots.{Request, slot_value}
 use Rattle.elf_model.specs.Link.ThreadStorage.{block_in}
 use Rattle.relocate.specs.declared.faults.RelocFault.{RelocFault}
@@ -32,24 +32,6 @@ slot_value_of objects w q = slot_value objects w q.kind q.target
 -- the value that a relocation wants, and the width of its field
 abbrev pub fitting_of : List LoadedObject → Where → Relocation → Fitting
 fitting_of objects w r = record { value = value_of objects w r; width = width_of r }
-
--- a kind of four bytes for S + A - P
-pub record IsNear (k : Kind) : Type 0 where
-  pub width : k.width ≡ 4
-  pub formula : k.formula ≡ S+A-P
-  pub range : k.range ≡ Signed
-
--- the terms of a relocation of such a kind, with 0 for those that its value hasn't
-abbrev pub near_terms : List LoadedObject → Where → Relocation → Terms
-near_terms objects w r = record {
-  s = used_value objects w r;
-  a = r.entry.r_addend;
-  p = section_address w.placed r.object r.section + r.entry.r_offset;
-  g = 0;
-  got = 0;
-  z = 0;
-  t = pos 0;
-}
 
 -- that value over its field
 abbrev pub patch_of : List LoadedObject → Where → Relocation → Patch

@@ -1,10 +1,9 @@
 //! The value that a relocation wants where the objects are laid out.
-ghost use Rattle.std.specs.Prelude.{◌≡◌, ◌%◌, ◌^◌, IsSome, IsSomeAnd, Some, SomeIff, option_map, true, unwrap_or};
+ghost use Rattle.std.specs.Prelude.{◌≡◌, ◌%◌, ◌^◌, IsSome, Some, SomeIff, option_map, unwrap_or};
 ghost use Rattle.std.specs.Option.{option_map_or};
 ghost use Rattle.elf_model.specs.Link.Meaning.{meaning_size, meaning_value};
 ghost use Rattle.elf_model.specs.Link.Pieces.{AreLawfulKinds};
 ghost use Rattle.elf_model.specs.Link.Placement.{got_start, section_address, symbol_value};
-ghost use Rattle.elf_model.specs.Link.Relocation as relocation;
 ghost use Rattle.elf_model.specs.Link.Relocation.{relocation_kind, relocation_of};
 ghost use Rattle.elf_model.specs.Link.RelocationValues as values;
 ghost use Rattle.elf_model.specs.Link.RelocationValues.{Fits, terms_of};
@@ -14,13 +13,13 @@ ghost use Rattle.got_tls.specs.Asking.{offset_of};
 ghost use Rattle.reloc_values.specs.Kinds.{kind_view};
 ghost use Rattle.reloc_values.specs.Terms.{Reduces};
 ghost use Rattle.relocate.specs.SymbolTables.{IsValued, all_valued, valued_object, where_of};
-ghost use Rattle.relocate.specs.Values.{IsNear, fitting_of, near_terms, where_in};
+ghost use Rattle.relocate.specs.Values.{fitting_of, where_in};
 
 use crate::symbol_values::Valued;
 use crate::thread_pointer::offset_from;
-use elf_model::{ObjectId, R_X86_64_PC32, R_X86_64_PLT32, Rela, SHN_ABS, SectionRef, SymbolRef};
+use elf_model::{ObjectId, Rela, SHN_ABS, SectionRef, SymbolRef};
 use layout::Placement;
-use reloc_values::{Formula, Kind, Range, Terms, fits, slot_kind, value};
+use reloc_values::{Kind, Terms, fits, slot_kind, value};
 use resolve::{Definition, SymbolOf};
 
 /// A section of an object, by their numbers.
@@ -191,63 +190,6 @@ pub struct Fitting {
     pub width: u8,
 }
 
-/// A kind of four bytes for S + A - P.
-const NEAR: Kind = Kind {
-    number: R_X86_64_PC32,
-    width: 4,
-    formula: Formula::SymbolFromPlace,
-    range: Range::Signed,
-};
-
-/// Whether a type is of such a kind, as most are.
-fn is_near(number: u32) -> bool
-    ensures { result ≡ true → IsSomeAnd (relocation.kind_of number) IsNear }
-{
-    number == R_X86_64_PC32 || number == R_X86_64_PLT32
-}
-
-/// The terms of the value of such an entry, `near`, with 0 for those that it hasn't; `at` is the address of the section that it
-/// relocates.
-fn near_terms(valued: &Valued<'_, '_>, _target: u64, at: u64, near: &Rela) -> Terms
-    requires known { IsValued valued.now }
-    requires at { at ≡ section_address (where_of valued.now).placed valued.now.number _target }
-    ensures { Reduces result
-        (near_terms (all_valued valued.now) (where_of valued.now)
-        (relocation_of valued.now.number (valued_object valued.now) _target near.now)) }
-{
-    Terms {
-        symbol: valued.symbol_value(near.symbol() as usize).value,
-        addend: near.r_addend,
-        place: at.wrapping_add(near.r_offset),
-        slot: 0,
-        got: 0,
-        size: 0,
-        thread: 0,
-    }
-}
-
-/// The value that an entry of such a kind wants, which relocates the section `target`; None where it doesn't fit its field.
-fn near_value(valued: &Valued<'_, '_>, _target: u64, at: u64, entry: &Rela) -> Option<Fitting>
-    requires valued { IsValued valued.now }
-    requires at { at ≡ section_address (where_of valued.now).placed valued.now.number _target }
-    requires near { IsSomeAnd (relocation_kind
-        (relocation_of valued.now.number (valued_object valued.now) _target entry.now)) IsNear }
-    ensures { SomeIff result
-        (Fits (all_valued valued.now) (where_of valued.now)
-        (relocation_of valued.now.number (valued_object valued.now) _target entry.now))
-        (fitting_of (all_valued valued.now) (where_of valued.now)
-        (relocation_of valued.now.number (valued_object valued.now) _target entry.now)) }
-{
-    let value = value(NEAR, near_terms(valued, _target, at, entry));
-    if !fits(NEAR, value) {
-        return None;
-    }
-    Some(Fitting {
-        value,
-        width: NEAR.width,
-    })
-}
-
 /// The value that an entry of a known kind wants, and how wide its field is; None where the value doesn't fit it.
 pub fn fitting_value(valued: &Valued<'_, '_>, target: u64, at: u64, entry: &Rela) -> Option<Fitting>
     requires valued { IsValued valued.now }
@@ -260,9 +202,6 @@ pub fn fitting_value(valued: &Valued<'_, '_>, target: u64, at: u64, entry: &Rela
         (fitting_of (all_valued valued.now) (where_of valued.now)
         (relocation_of valued.now.number (valued_object valued.now) target entry.now)) }
 {
-    if is_near(entry.kind()) {
-        return near_value(valued, target, at, entry);
-    }
     let Some(kind) = Kind::of(entry.kind()) else {
         unreachable!()
     };
