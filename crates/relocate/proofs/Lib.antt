@@ -15,4 +15,3 @@ pub mod LinkerMeanings
 pub mod LocalReferences
 pub mod ShortFields
 pub mod SymbolTables
-pub mod PlainFields

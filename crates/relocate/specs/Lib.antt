@@ -6,4 +6,3 @@ pub mod References
 pub mod Values
 pub mod Uses
 pub mod SymbolTables
-pub mod PlainFields

@@ -14,7 +14,6 @@ use Rattle.elf_model.specs.Link.Slots.{slots}
 use Rattle.search.specs.Views.{loaded_view}
 use Rattle.layout.specs.Mixed.{AreMixed}
 use Rattle.got_tls.specs.Askers.{IsAsker, all_asked, asking}
-use Rattle.relocate.specs.PlainFields.{ArePlain}
 use Rattle.relocate.specs.References.{IsObjectAt}
 use Rattle.relocate.specs.Values.{pointer_in, where_in}
 use Rattle.relocate.specs.declared.referrer.Reference.{Reference}
@@ -53,7 +52,6 @@ pub record IsReferrer (r : Referrer) : Type 0 where
   pub asked_number : r.asker.number ≡ r.number
   pub asked_own : asking r.asker ≡ referring r
   pub table : AreReferences (all_of r) r.number (referring r) r.table.items
-  pub plain : ArePlain r.asker r.table.items r.plain.items
 
 -- a section of an object that entries relocate: its size
 pub record IsRelocated (o : LoadedObject) (t : Relocated) : Type 0 where

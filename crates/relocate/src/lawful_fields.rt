@@ -1,12 +1,11 @@
 //! What is asked of one relocation: a known kind, a lawful symbol, a kind for what that symbol is, a field
 //! inside its section, and no bound of several output sections.
-ghost use Rattle.std.specs.Prelude.{◌≡◌, ◌↔◌, ◌+◌, ◌≤◌, ℕ, IsTrue, List, IfErr, IfOk, IfSome, OnOk, Some};
+ghost use Rattle.std.specs.Prelude.{◌≡◌, ◌↔◌, ◌+◌, ◌≤◌, ℕ, IsTrue, List, IfErr, IfOk, OnOk, Some};
 ghost use Rattle.elf_model.specs.Link.Loading as loading;
 ghost use Rattle.elf_model.specs.Link.Relocation as relocation;
 ghost use Rattle.elf_model.specs.Link.Relocation.{IsLawfulRelocation, relocation_kind, relocation_of};
 ghost use Rattle.relocate.specs.Fields.{field_of};
-ghost use Rattle.relocate.specs.PlainFields.{IsPlain, IsPlainFormula};
-ghost use Rattle.reloc_values.specs.Kinds.{formula_view, kind_view};
+ghost use Rattle.reloc_values.specs.Kinds.{kind_view};
 ghost use Rattle.relocate.specs.References.{IsUnlawful, RelocationFails};
 ghost use Rattle.relocate.specs.SymbolTables.{IsReferrer, IsRelocated, all_of, referring};
 
@@ -15,7 +14,7 @@ use crate::fields::Field;
 use crate::referrer::{Referrer, Relocated};
 use crate::targets::undefined;
 use elf_model::Rela;
-use reloc_values::{Formula, Kind, is_mismatch};
+use reloc_values::{Kind, is_mismatch};
 use std::alloc::Global;
 
 /// Whether the field of an entry of a kind lies inside the section that it relocates.
@@ -77,40 +76,6 @@ pub fn lawful_kind(
         return Err(RelocationFault::FieldOutside);
     }
     Ok(kind)
-}
-
-/// The kind of a type whose value is S + A or S + A - P, which asks nothing of the GOT; None of any other.
-fn plain_kind(number: u32) -> Option<Kind>
-    ensures kind { IfSome result (λ k. relocation.kind_of number ≡ Some (kind_view k)) }
-    ensures plain { IfSome result (λ k. IsPlainFormula (formula_view k.formula)) }
-{
-    let kind = Kind::of(number)?;
-    match kind.formula {
-        Formula::Symbol | Formula::SymbolFromPlace => Some(kind),
-        _ => None,
-    }
-}
-
-/// The field of an entry that relocates a section of an object, where it is seen at once that the entry is lawful and asks
-/// nothing of the GOT, as most do.
-pub fn plain_field(
-    referrer: &Referrer<'_, '_, '_>,
-    target: Relocated,
-    entry: &Rela,
-) -> Option<Field>
-    requires known { IsReferrer referrer.now }
-    requires target { IsRelocated (referring referrer.now) target }
-    ensures { IfSome result (IsPlain (all_of referrer.now)
-        (relocation_of referrer.now.number (referring referrer.now) target.number entry.now)) }
-{
-    let kind = plain_kind(entry.kind())?;
-    if !referrer.is_plain(entry.symbol() as usize) {
-        return None;
-    }
-    if !is_inside(target, kind, entry) {
-        return None;
-    }
-    Some(field_of(target, kind, entry))
 }
 
 /// What is wrong with a relocation, as a refusal, which owns the name of its symbol where that is undefined.

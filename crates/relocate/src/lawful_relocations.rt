@@ -15,7 +15,7 @@ use crate::faults::RelocFault;
 use crate::field_list::list_fields;
 use crate::field_run::FieldRun;
 use crate::fields::{Field, are_apart};
-use crate::lawful_fields::{lawful_field, plain_field};
+use crate::lawful_fields::lawful_field;
 use crate::referrer::Referrer;
 use elf_model::Rela;
 use got_tls::{Asked, Slots, add_entry, slots_asked};
@@ -181,7 +181,7 @@ fn judge_fields<'a>(
     Ok(())
 }
 
-/// Judges the entries of a kept RELA section one by one, and tells the same of them. Most of them are plain.
+/// Judges the entries of a kept RELA section one by one, and tells the same of them.
 fn judge_section<'a>(
     alloc: Global,
     referrer: &Referrer<'_, '_, 'a>,
@@ -204,10 +204,6 @@ fn judge_section<'a>(
 {
     let target = referrer.relocated(rela.target as u64);
     for entry in referrer.loaded.kept_entries(rela) {
-        if let Some(field) = plain_field(referrer, target, &entry) {
-            *run = run.with(field);
-            continue;
-        }
         let field = lawful_field(alloc, referrer, target, &entry)?;
         *run = run.with(field);
         note_request(asked, referrer, target.number, &entry)?;

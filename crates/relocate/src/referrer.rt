@@ -11,7 +11,6 @@ ghost use Rattle.resolve.specs.Threads.{is_thread_chosen};
 ghost use Rattle.resolve.specs.Views.{meaning_view};
 ghost use Rattle.relocate.specs.LocalUses.{IsReferenceBy};
 ghost use Rattle.relocate.specs.References.{IsObjectAt};
-ghost use Rattle.relocate.specs.PlainFields.{ArePlain, IsClear, IsPlainSymbol};
 ghost use Rattle.relocate.specs.SymbolTables.{AreReferences, IsReference, IsReferrer, IsRelocated, all_of, referring};
 
 use crate::targets::{
@@ -40,15 +39,6 @@ pub struct Reference {
     pub mixed: bool,
 }
 
-impl Reference {
-    /// Whether it is lawful for what stands outside thread-local storage.
-    fn is_plain(&self) -> bool
-        ensures { result ≡ true → IsClear self.now }
-    {
-        !(self.undefined || self.unkept || self.thread_local || self.mixed)
-    }
-}
-
 /// An object whose relocations are judged, with its number. The output names of several output sections are `mixed`.
 #[derive(Drop)]
 pub struct Referrer<'r, 'm, 'a> {
@@ -60,8 +50,6 @@ pub struct Referrer<'r, 'm, 'a> {
     pub asker: Asker<'r, 'a>,
     /// What a reference to each symbol is, as far as there are rows.
     pub table: Vec<Reference>,
-    /// Whether it is plain, as far as there are rows.
-    pub plain: Vec<bool>,
 }
 
 /// A section that entries relocate: its number, and its size in bytes.
@@ -220,25 +208,6 @@ fn table_of<'a>(
     Ok(table)
 }
 
-/// Whether references are plain, of an object that has these rows; no rows where one of its symbols names the GOT.
-fn plain_rows(
-    alloc: Global,
-    asker: &Asker<'_, '_>,
-    table: &[Reference],
-) -> Result<Vec<bool>, AllocError>
-    ensures { IfOk result (λ v. ArePlain asker.now table.now v.items) }
-{
-    let mut rows = Vec::new(alloc);
-    if asker.named {
-        return Ok(rows);
-    }
-    rows.reserve(table.len())?;
-    for j in 0..table.len() {
-        rows.push(table[j].is_plain())?;
-    }
-    Ok(rows)
-}
-
 impl<'r, 'm, 'a> Referrer<'r, 'm, 'a> {
     /// Object `number`.
     pub fn new(
@@ -256,16 +225,13 @@ impl<'r, 'm, 'a> Referrer<'r, 'm, 'a> {
         ensures own { IfOk result (λ r. referring r ≡ loaded_view loaded.entry.now) }
     {
         let table = table_of(alloc, resolved, mixed, number, loaded)?;
-        let asker = Asker::new(resolved, number, loaded);
-        let plain = plain_rows(alloc, &asker, &table)?;
         Ok(Referrer {
             resolved,
             mixed,
             number,
             loaded,
-            asker,
+            asker: Asker::new(resolved, number, loaded),
             table,
-            plain,
         })
     }
 
@@ -278,19 +244,6 @@ impl<'r, 'm, 'a> Referrer<'r, 'm, 'a> {
         match self.table.get(j) {
             Some(reference) => *reference,
             None => reference_to(self.resolved, self.mixed, self.number, self.loaded, j),
-        }
-    }
-
-    /// Whether it is seen at once that a reference to symbol `j` is lawful for what stands outside thread-local storage, and
-    /// doesn't name the GOT.
-    pub fn is_plain(&self, j: usize) -> bool
-        requires { IsReferrer self.now }
-        ensures { result ≡ true → IsPlainSymbol (all_of self.now)
-            (symbol_at self.now.number (referring self.now) j) }
-    {
-        match self.plain.get(j) {
-            Some(plain) => *plain,
-            None => false,
         }
     }
 

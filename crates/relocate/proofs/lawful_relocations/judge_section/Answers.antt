@@ -33,19 +33,6 @@ returns-in_err-field-clause-fault c =
     exit_fails _ _ exit.result e (err_from_is_err_and exit.result exit.ensures.1)
     (leaves_fail _ _ _ (_ ∷ []) _ e parts (fail_first _ _ [] e c.in_err-field.ensures.fault) c.loop-entry.invariant.leaves)
 
-pub loop-entry-preserved-in-Some-plain_field : goal.loop-entry-preserved-in-Some-plain_field
-loop-entry-preserved-in-Some-plain_field c =
-    let r = c.args.referrer.now in
-    let parts = entry_first r.number (referring r) c.args.rela.target c.relocated-target.result.number c.in-Some.entry _ _ c.relocated-target.ensures.number c.in-Some.ensures.steps in
-    let plain = c.in-Some-plain_field.ensures in
-    record {
-      run = run_taken c.loop-entry.run _ _ (_ ∷ []) _ _ (c.with.ensures ∙ ap (run_with c.loop-entry.run) plain.field) parts c.loop-entry.invariant.run;
-      asked =
-          taken (all_of r) (wants c.loop-entry.asked) (wants c.loop-entry.asked) _ (_ ∷ []) _ _ (sym (plain.silent (wants c.loop-entry.asked))) parts
-          c.loop-entry.invariant.asked;
-      leaves = leaves_one _ _ _ _ _ parts plain.lawful c.loop-entry.invariant.leaves;
-    }
-
 pub loop-entry-preserved : goal.loop-entry-preserved
 loop-entry-preserved c =
     let r = c.args.referrer.now in
@@ -53,7 +40,7 @@ loop-entry-preserved c =
     record {
       run =
           run_taken c.loop-entry.run _ _ (_ ∷ []) _ _
-          (c.with-in-loop-entry.ensures ∙ ap (run_with c.loop-entry.run) c.in_ok-field.ensures.field) parts c.loop-entry.invariant.run;
+          (c.with.ensures ∙ ap (run_with c.loop-entry.run) c.in_ok-field.ensures.field) parts c.loop-entry.invariant.run;
       asked =
           taken (all_of r) (wants c.loop-entry.asked) (wants c.note_request.new.asked) _ (_ ∷ []) _ _ c.in_ok-note_request.ensures parts
           c.loop-entry.invariant.asked;

@@ -1,11 +1,8 @@
-use Rattle.std.proofs.Common.{List, subst}
-use Rattle.relocate.specs.PlainFields.{ArePlain}
-use Rattle.relocate.specs.declared.referrer.Reference.{Reference}
 use Rattle.relocate.proofs.referrer.Referrer.new.Goals as goal
 
 pub returns-clause-known : goal.returns-clause-known
 returns-clause-known c =
-    let a = c.new-asker.ensures in
+    let a = c.new.ensures in
     record {
       here = c.requires.here;
       mixed = c.requires.mixed;
@@ -14,5 +11,4 @@ returns-clause-known c =
       asked_number = a.number;
       asked_own = a.own;
       table = c.in_ok-table.ensures;
-      plain = subst (λ (t : List Reference). ArePlain c.new-asker.result t c.in_ok-plain.plain.items) c.deref.ensures.value c.in_ok-plain.ensures;
     }
