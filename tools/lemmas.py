@@ -56,7 +56,7 @@ LAYERS = {
         "Kinds and mixed output sections": "KindLemmas MixedOutputs",
     },
     "check_link": {
-        "Names, definitions and common blocks": "Asked AtNumbers CommonEntries CommonRows Defined Hints Mangled Positions SymbolNumbers"
+        "Names, definitions and common blocks": "Asked AtNumbers CommonEntries CommonRows Defined Hints Positions SymbolNumbers"
         " Walked",
         "Pieces and output sections": "Alignments ByNames Gathering Padded PieceLemmas PlaceKeys PlaceSteps RunParts SameOutput"
         " SeenOutputs",

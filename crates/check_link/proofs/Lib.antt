@@ -7,7 +7,6 @@ pub mod CommonRows
 pub mod Defined
 pub mod Gathering
 pub mod Hints
-pub mod Mangled
 pub mod Padded
 pub mod PieceLemmas
 pub mod PlaceKeys

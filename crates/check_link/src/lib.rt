@@ -34,7 +34,7 @@ pub use definition_list::Definitions;
 pub use definitions::{has_value, is_in_thread_section};
 pub use inputs::{read_map, read_plan};
 pub use link::{Link, base_of, entry_of};
-pub use linker_names::{fixed_bound, is_mangled, named_output, output_bound};
+pub use linker_names::{fixed_bound, named_output, output_bound};
 pub use names::Names;
 pub use numbering::Numbering;
 pub use output_names::Outputs;

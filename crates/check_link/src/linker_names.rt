@@ -1,10 +1,9 @@
 //! The names that the linker itself defines where no object does (docs/PROFILE.md).
-ghost use Rattle.std.specs.Prelude.{◌≡◌, ◌||◌, List, None, drop, find, option_map, true};
+ghost use Rattle.std.specs.Prelude.{◌≡◌, ◌||◌, drop, find, option_map};
 ghost use Rattle.std.specs.List.{list_all};
 ghost use Rattle.std.specs.Str.{bytes_eq};
 ghost use Rattle.elf_model.specs.Link.LinkerNames as linker;
-ghost use Rattle.elf_model.specs.Link.LinkerNames.{array_named, bound_names, bound_of};
-ghost use Rattle.elf_model.specs.Link.Loading.{LoadedObject};
+ghost use Rattle.elf_model.specs.Link.LinkerNames.{array_named, bound_names};
 ghost use Rattle.check_link.specs.Views.{held};
 
 use elf_model::Bound;
@@ -81,16 +80,6 @@ fn array_output(name: &[u8]) -> Option<&'static [u8]>
         return Some(b".preinit_array");
     }
     None
-}
-
-/// Whether a name's second byte is `Z`. So it is in the mangled names of C++, and in no name that the linker defines.
-pub fn is_mangled(name: &[u8]) -> bool
-    ensures { result ≡ true → (objects : List LoadedObject) → bound_of objects name.now ≡ None }
-{
-    match name.get(1) {
-        Some(byte) => *byte == b'Z',
-        None => false,
-    }
 }
 
 fn is_between(low: u8, high: u8, byte: u8) -> bool

@@ -23,7 +23,7 @@ ghost use Rattle.check_link.specs.Views.{meaning_view, symbol_view, symbol_views
 use crate::targets::Target;
 use check_link::{
     Definitions, Meaning, Names, Outputs, Places, SlotTable, SymbolOf, are_sound, fixed_bound,
-    has_value, is_in_thread_section, is_mangled, named_output, output_bound, section_of,
+    has_value, is_in_thread_section, named_output, output_bound, section_of,
 };
 use check_load::Loaded;
 use elf_model::{Bound, SHN_ABS, SHN_UNDEF, STB_LOCAL, STB_WEAK};
@@ -238,9 +238,6 @@ impl<'l, 'p, 'a> Bindings<'l, 'p, 'a> {
     pub fn bound_of(&self, name: &[u8]) -> Option<Bound>
         ensures { result ≡ bound_of self.now.objects name.now }
     {
-        if is_mangled(name) {
-            return None;
-        }
         if let Some(bound) = fixed_bound(name) {
             return Some(bound);
         }
