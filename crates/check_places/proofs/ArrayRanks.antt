@@ -1,11 +1,11 @@
 -- Short numbers of decimal digits, and the ranks of sections by their names.
-use Rattle.std.proofs.Common.{◌≡◌, ◌≢◌, ℕ, zero, suc, ◌<◌, Bool, true, false, ◌&&◌, ◌||◌, List, [], ◌∷◌, cond, drop, length, refl, sym, ap, ◌∙◌, arith}
-use Rattle.std.specs.Prelude.{codes, nat_eq, slice_index}
+use Rattle.std.proofs.Common.{◌≡◌, ℕ, ◌<◌, Bool, true, false, ◌&&◌, ◌||◌, List, [], ◌∷◌, cond, drop, length, refl, sym, ap, ◌∙◌, arith}
+use Rattle.std.specs.Prelude.{codes, nat_eq}
 use Rattle.std.specs.Char.{is_ascii_digit}
 use Rattle.std.specs.List.{list_all, starts_with}
 use Rattle.std.specs.Str.{all_ascii_digits}
 use Rattle.std.specs.Str.Parse.{digits_value}
-use Rattle.std.proofs.lemmas.Bool.{and_parts, and_from, ne_eqb}
+use Rattle.std.proofs.lemmas.Bool.{and_parts, and_from}
 use Rattle.elf_model.specs.Link.ArrayOrder.{array_rank, is_array_prefixed, is_numbered}
 
 pub are_ascii_digits : (ds : List ℕ) → list_all is_ascii_digit ds ≡ true → all_ascii_digits ds ≡ true
@@ -27,7 +27,7 @@ rank_of_other name never = by (is_numbered name) refl
     by true e = absurd (never e)
     by false e = refl
 
--- Names that are shorter than those of numbered arrays, or have another byte at a place, begin otherwise.
+-- Names that are shorter than those of numbered arrays begin otherwise.
 and_false : (b : Bool) → (b && false) ≡ false
 and_false true = refl
 and_false false = refl
@@ -37,13 +37,6 @@ too_short name [] short = absurd (omega (arith, short))
 too_short [] (d ∷ ds) short = refl
 too_short (n ∷ ns) (d ∷ ds) short = ap (λ (b : Bool). nat_eq d n && b) (too_short ns ds (omega (arith, short))) ∙ and_false (nat_eq d n)
 
-begins_otherwise : (name prefix : List ℕ) (k : ℕ) → k < length prefix → slice_index name k ≢ slice_index prefix k → starts_with nat_eq name prefix ≡ false
-begins_otherwise name [] k low differ = absurd (omega (arith, low))
-begins_otherwise [] (d ∷ ds) k low differ = refl
-begins_otherwise (n ∷ ns) (d ∷ ds) zero low differ = ap (λ (b : Bool). b && starts_with nat_eq ns ds) (ne_eqb d n (λ same. differ (sym same)))
-begins_otherwise (n ∷ ns) (d ∷ ds) (suc k) low differ =
-    ap (λ (b : Bool). nat_eq d n && b) (begins_otherwise ns ds k (omega (arith, low)) differ) ∙ and_false (nat_eq d n)
-
 either_false : (a b : Bool) → a ≡ false → b ≡ false → false ≡ (a || b)
 either_false a b e f = rw (e, f) refl
 
@@ -51,8 +44,3 @@ pub short_name : (name : List ℕ) → length name < 12 → false ≡ is_array_p
 short_name name short =
     either_false (starts_with nat_eq name (codes ".init_array.")) (starts_with nat_eq name (codes ".fini_array."))
     (too_short name (codes ".init_array.") short) (too_short name (codes ".fini_array.") short)
-
-pub other_name : (name : List ℕ) → slice_index name 6 ≢ 97 → false ≡ is_array_prefixed name
-other_name name differ =
-    either_false (starts_with nat_eq name (codes ".init_array.")) (starts_with nat_eq name (codes ".fini_array."))
-    (begins_otherwise name (codes ".init_array.") 6 (omega arith) differ) (begins_otherwise name (codes ".fini_array.") 6 (omega arith) differ)

@@ -14,16 +14,13 @@ use std::alloc::{AllocError, Global};
 /// The rank of a section that has no number: above all numbers of up to five digits.
 const NO_NUMBER: u64 = 100_000;
 
-/// Whether a name begins as those of numbered arrays do, in 12 bytes. The seventh tells most names apart.
-#[tactic(auto, using(crate::proofs::ArrayRanks::short_name, crate::proofs::ArrayRanks::other_name))]
+/// Whether a name begins as those of numbered arrays do, in 12 bytes.
+#[tactic(auto, using(crate::proofs::ArrayRanks::short_name))]
 fn is_array_prefixed(name: &[u8]) -> bool
     ensures value { result ≡ order.is_array_prefixed name.now }
     ensures long { IsTrue result → 12 ≤ length name.now }
 {
     if name.len() < 12 {
-        return false;
-    }
-    if name[6] != b'a' {
         return false;
     }
     name.starts_with(b".init_array.") || name.starts_with(b".fini_array.")
