@@ -8,7 +8,7 @@ use Rattle.check_relocs.specs.Known.{AreKnown, known_at}
 -- a fact of the elements of a list, where past its end stands one of which the fact holds at each number
 module _ {X : Type 0} (fact : ℕ → X → Type 0) (none : X) (past : (k : ℕ) → fact k none) where
   -- one element more
-  pub kept_more :
+  kept_more :
       (xs new : List X) (j : ℕ) (x : X) → new ≡ set xs j x → ((k : ℕ) → fact k (get_or xs k none)) → fact j x → (k : ℕ) → fact k (get_or new k none)
   kept_more xs new j x put are here k = subst (λ (l : List X). fact k (get_or l k none)) (sym put) (by (below_or_not k j) (below_or_not j k))
     where

@@ -10,8 +10,6 @@ pub mod Noted
 pub mod NotedSlots
 pub mod ObjectFields
 pub mod PartitionPoints
-pub mod PlainKinds
-pub mod PlainTargets
 pub mod RightParts
 pub mod RowFacts
 pub mod RowLookup

@@ -11,7 +11,7 @@ use Rattle.check_relocs.specs.declared.kinds.Formula.{Formula}
 use Rattle.check_relocs.specs.declared.kinds.Formula.TheVariants.{Symbol, SymbolFromPlace, SymbolFromGot, Slot, SlotFromPlace, GotFromPlace, Size, ThreadOffset, ThreadSlotFromPlace}
 use Rattle.check_relocs.specs.declared.values.Terms.{Terms}
 
-pub less_nothing : (z : ℤ) → z ≡ z -ℤ pos 0
+less_nothing : (z : ℤ) → z ≡ z -ℤ pos 0
 less_nothing z = omega (arith, ints)
 
 -- each formula is a base and the addend, less what it takes away

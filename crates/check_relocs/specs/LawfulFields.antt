@@ -60,8 +60,3 @@ field_with kind t to g e = record {
   width = unwrap_or (option_map (λ k. k.width) kind) 0;
   value = value_with kind t to g e;
 }
-
--- an entry of a kind is lawful, its value fits, and its field is this one
-pub record IsFieldWith (kind : Option Kind) (t : Target) (to : Relocated) (g : LinkTerms) (e : Rela) (f : Field) : Type 0 where
-  pub right : IsRightWith kind t to g e
-  pub field : f ≡ field_with kind t to g e

@@ -8,6 +8,5 @@ pub mod KnownTargets
 pub mod LawfulFields
 pub mod LinkerUses
 pub mod Needs
-pub mod PlainValues
 pub mod Referrers
 pub mod Widths

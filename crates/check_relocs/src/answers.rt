@@ -1,5 +1,5 @@
 //! Answers about the symbols of an object, by their numbers: each is kept once a relocation that names its symbol was seen.
-ghost use Rattle.std.specs.Prelude.{◌≡◌, ℕ, IfOk, None, Some, slice_index_or, slice_set};
+ghost use Rattle.std.specs.Prelude.{◌≡◌, ℕ, IfOk, None, Some, slice_set};
 ghost use Rattle.check_relocs.specs.Known.{known_at};
 
 use crate::targets::entry_count;
@@ -10,31 +10,22 @@ use std::alloc::{AllocError, Global};
 /// a long name, which must not be read once for each.
 const FEW: usize = 8;
 
-/// Room for something that will be known of the symbols of an object: nothing yet. There is none where the object has few
-/// relocations.
-pub fn room_for_symbols<T: Copy + Drop>(
+/// Where answers about the symbols of an object will be kept, none yet. There is no room where the object has few relocations.
+pub fn no_answers<T: Copy + Drop>(
     alloc: Global,
     loaded: &Loaded<'_>,
-    nothing: T,
-) -> Result<Vec<T>, AllocError>
-    ensures { IfOk result (λ v. (j : ℕ) → slice_index_or v.items j nothing ≡ nothing) }
+) -> Result<Vec<Option<T>>, AllocError>
+    ensures { IfOk result (λ v. (j : ℕ) → known_at v.items j ≡ None) }
 {
     if entry_count(loaded) <= FEW {
         return Ok(Vec::new(alloc));
     }
-    let room = filled(alloc, nothing, loaded.object.symbols().len())?;
+    let room = filled(alloc, None, loaded.object.symbols().len())?;
     Ok(room)
 }
 
-/// Where answers about the symbols of an object will be kept, none yet.
-pub fn no_answers(alloc: Global, loaded: &Loaded<'_>) -> Result<Vec<Option<bool>>, AllocError>
-    ensures { IfOk result (λ v. (j : ℕ) → known_at v.items j ≡ None) }
-{
-    room_for_symbols(alloc, loaded, None)
-}
-
 /// Keeps an answer about symbol `j`, where there is room for it.
-pub fn keep_answer(answers: &mut Vec<Option<bool>>, j: usize, answer: bool)
+pub fn keep_answer<T: Copy + Drop>(answers: &mut Vec<Option<T>>, j: usize, answer: T)
     ensures { answers.new.items ≡ slice_set answers.old.items j (Some answer) }
 {
     if j < answers.len() {
@@ -43,7 +34,7 @@ pub fn keep_answer(answers: &mut Vec<Option<bool>>, j: usize, answer: bool)
 }
 
 /// The answer about symbol `j`, where it is known.
-pub fn known_answer(answers: &[Option<bool>], j: usize) -> Option<bool>
+pub fn known_answer<T: Copy>(answers: &[Option<T>], j: usize) -> Option<T>
     ensures { result ≡ known_at answers.now j }
 {
     match answers.get(j) {

@@ -2,15 +2,16 @@
 ghost use Rattle.std.specs.Prelude.{IfOk};
 ghost use Rattle.check_relocs.specs.KnownSlots.{AreSymbolsKnown};
 
-use crate::known_targets::{KnownTarget, unknown_targets};
+use crate::answers::no_answers;
 use crate::referrer::Referrer;
-use crate::slots::{SymbolSlot, unknown_slots};
+use crate::slots::SymbolSlot;
+use crate::targets::Target;
 use std::alloc::{AllocError, Global};
 
 /// What the symbols of an object mean, and where their slots are: each once a relocation asked.
 #[derive(Drop)]
 pub struct KnownSymbols {
-    pub targets: Vec<KnownTarget>,
+    pub targets: Vec<Option<Target>>,
     pub slots: Vec<Option<SymbolSlot>>,
 }
 
@@ -21,7 +22,7 @@ pub fn unknown_symbols(
 ) -> Result<KnownSymbols, AllocError>
     ensures { IfOk result (AreSymbolsKnown here.now) }
 {
-    let targets = unknown_targets(alloc, here.loaded)?;
-    let slots = unknown_slots(alloc, here.loaded)?;
+    let targets = no_answers(alloc, here.loaded)?;
+    let slots = no_answers(alloc, here.loaded)?;
     Ok(KnownSymbols { targets, slots })
 }

@@ -13,8 +13,6 @@ mod known_targets;
 mod lawful_fields;
 mod linker_uses;
 mod needs;
-mod plain_fields;
-mod plain_values;
 mod referrer;
 mod section_fields;
 mod slots;
@@ -33,7 +31,6 @@ pub use lawful_fields::{
 };
 pub use linker_uses::{linker_lines, used_names};
 pub use needs::{Needs, needs_of};
-pub use plain_fields::plain_field;
 pub use referrer::Referrer;
 pub use section_fields::{fields_in, part_of};
 pub use targets::{Target, target_of_symbol};

@@ -1,5 +1,5 @@
 //! Where the slots are for which relocations ask, each looked up once for a symbol of an object.
-ghost use Rattle.std.specs.Prelude.{◌≡◌, ℕ, IfOk, IfSome, None, Some, slice_set};
+ghost use Rattle.std.specs.Prelude.{◌≡◌, IfSome, Some};
 ghost use Rattle.elf_model.specs.Link.Relocation.{relocation_kind};
 ghost use Rattle.elf_model.specs.Link.Slots.{requested_address, slot_address};
 ghost use Rattle.check_link.specs.Slots.{line_of};
@@ -8,14 +8,13 @@ ghost use Rattle.check_relocs.specs.Kinds.{kind_view};
 ghost use Rattle.check_relocs.specs.KnownSlots.{AreSlots, request_here, rows_here};
 ghost use Rattle.check_relocs.specs.Referrers.{relocation_here};
 
-use crate::answers::room_for_symbols;
+use crate::answers::{keep_answer, known_answer};
 use crate::entry_requests::{slot_kind_of, target_at};
 use crate::kinds::Kind;
 use crate::referrer::Referrer;
 use crate::targets::is_local_at;
 use check_link::{Request, is_thread};
-use check_load::{KeptRelocation, Loaded};
-use std::alloc::{AllocError, Global};
+use check_load::KeptRelocation;
 
 /// A slot of a symbol: whether it is for the offset from the thread pointer, else for the value, and its address, 0 where
 /// there is none.
@@ -25,41 +24,12 @@ pub struct SymbolSlot {
     pub address: u64,
 }
 
-/// Where slots of the symbols of an object will be kept, of none yet.
-pub fn unknown_slots(
-    alloc: Global,
-    loaded: &Loaded<'_>,
-) -> Result<Vec<Option<SymbolSlot>>, AllocError>
-    ensures { IfOk result (λ v. (j : ℕ) → known_at v.items j ≡ None) }
-{
-    room_for_symbols(alloc, loaded, None)
-}
-
-/// Keeps a slot of symbol `j`, where there is room for it.
-fn keep_slot(slots: &mut Vec<Option<SymbolSlot>>, j: usize, slot: SymbolSlot)
-    ensures { slots.new.items ≡ slice_set slots.old.items j (Some slot) }
-{
-    if j < slots.len() {
-        slots[j] = Some(slot);
-    }
-}
-
-/// The slot of symbol `j` that is known.
-fn known_slot(slots: &[Option<SymbolSlot>], j: usize) -> Option<SymbolSlot>
-    ensures { result ≡ known_at slots.now j }
-{
-    match slots.get(j) {
-        Some(slot) => *slot,
-        None => None,
-    }
-}
-
 /// The address of symbol `j`'s slot of a kind, where that is known.
 fn known_address(slots: &[Option<SymbolSlot>], j: usize, thread: bool) -> Option<u64>
     ensures { IfSome result (λ address.
         known_at slots.now j ≡ Some (record { thread = thread; address = address })) }
 {
-    match known_slot(slots, j) {
+    match known_answer(slots, j) {
         Some(slot) if slot.thread == thread => Some(slot.address),
         _ => None,
     }
@@ -114,7 +84,7 @@ fn address_at(
         return address;
     }
     let address = found_address(here, j, thread);
-    keep_slot(slots, j, SymbolSlot { thread, address });
+    keep_answer(slots, j, SymbolSlot { thread, address });
     address
 }
 

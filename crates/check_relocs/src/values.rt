@@ -53,7 +53,7 @@ fn less_of(formula: Formula, terms: Terms) -> u64
 
 /// A sum with an addend, less a number, modulo 2^64.
 #[inline(always)]
-pub fn shifted(base: u64, addend: i64, less: u64) -> u64
+fn shifted(base: u64, addend: i64, less: u64) -> u64
     ensures { (b l : ℕ) → base ≡ b % 2 ^ 64 → less ≡ l % 2 ^ 64
         → result ≡ modulo_64 ((pos b +ℤ addend) -ℤ pos l) }
 {

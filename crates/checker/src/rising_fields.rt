@@ -19,8 +19,7 @@ use crate::c10_bytes::{has_value_at, same_between};
 use check_link::{Placed, load_size};
 use check_load::{KeptRela, KeptRelocation, Loaded};
 use check_relocs::{
-    Field, KnownSymbols, Referrer, Relocated, is_some_kind, plain_field, relocated, right_field,
-    unknown_symbols,
+    Field, KnownSymbols, Referrer, Relocated, is_some_kind, relocated, right_field, unknown_symbols,
 };
 use check_stages::BoundLink;
 use elf_model::Rela;
@@ -42,7 +41,7 @@ fn follows(held: &[u8], bytes: &[u8], from: u64, field: &Field) -> bool
 }
 
 /// The field of a kept relocation, given what it relocates, for which an entry of a kept RELA section stands; None where it isn't
-/// right. The entry itself tells it where its kind and its symbol are plain, as they mostly are.
+/// right.
 #[inline(always)]
 fn field_at(
     here: &Referrer<'_, '_, '_, '_>,
@@ -61,9 +60,6 @@ fn field_at(
     ensures field { IfSome result (λ f. f ≡ field_here here.now
         (entry_here here.now rela.now.target entry)) }
 {
-    if let Some(field) = plain_field(here, known, to, &entry) {
-        return Some(field);
-    }
     let relocation = KeptRelocation {
         section: rela.target,
         table: rela.number,

@@ -1,7 +1,7 @@
-use Rattle.std.proofs.Common.{◌≡◌, subst, sym}
+use Rattle.std.proofs.Common.{◌≡◌}
 use Rattle.elf_model.specs.Link.Slots.{requested_address}
+use Rattle.check_relocs.specs.Bindings.{IsTargetOf}
 use Rattle.check_relocs.specs.KnownSlots.{request_here}
-use Rattle.check_relocs.specs.KnownTargets.{IsKnownTarget}
 use Rattle.check_relocs.specs.Referrers.{symbol_here}
 use Rattle.check_relocs.proofs.KnownSteps.{known_nothing}
 use Rattle.check_relocs.proofs.known_symbols.unknown_symbols.Goals as goal
@@ -10,7 +10,7 @@ pub returns : goal.returns
 returns c =
     let h = c.args.here.now in
     record {
-      targets = λ j. subst (IsKnownTarget h.bindings.now (symbol_here h j)) (sym (c.in_ok-targets.ensures j)) tt;
+      targets = known_nothing (λ j t. IsTargetOf h.bindings.now (symbol_here h j) t) c.in_ok-targets.targets.items c.in_ok-targets.ensures;
       slots = known_nothing (λ j s. s.address ≡ requested_address h.bindings.now.places.slots (request_here h j s.thread)) c.in_ok-slots.slots.items
           c.in_ok-slots.ensures;
     }

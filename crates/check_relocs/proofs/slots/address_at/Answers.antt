@@ -20,4 +20,4 @@ pub returns-clause-kept : goal.returns-clause-kept
 returns-clause-kept c =
     let h = c.args.here.now in
     known_more (λ j (s : SymbolSlot). s.address ≡ requested_address h.bindings.now.places.slots (request_here h j s.thread)) c.args.slots.now.items
-    c.keep_slot.new.slots.items c.args.j _ c.keep_slot.ensures c.requires c.found_address-address.ensures
+    c.keep_answer.new.answers.items c.args.j _ c.keep_answer.ensures c.requires c.found_address-address.ensures
