@@ -2,6 +2,8 @@ mod Ascending
 mod IndexSteps
 mod LongTexts
 mod NameSteps
+pub mod PartLaws
+mod PartSteps
 mod Places
 pub mod Steps
-mod Walk
+pub mod Walk

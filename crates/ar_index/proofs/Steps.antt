@@ -6,8 +6,8 @@ use Rattle.std.proofs.lemmas.List.Elements.{All-nil}
 use Rattle.elf_model.specs.Inputs.ArchiveFile.{ArFaultStands, HasIndexData, HasMagic, IndexEntry, IsArchive, IsIntact, IsKnownUpTo, Member, NamesMember, StoredMember, data_of, entries_of, header_offsets, index, index_in, members}
 use Rattle.elf_model.specs.declared.faults.ArFault.{ArFault}
 use Rattle.elf_model.specs.declared.faults.ArFault.TheVariants as fault
-use Rattle.ar_index.specs.Reading.{IsIndexFault}
-use Rattle.ar_index.proofs.Walk.{Passed, first_header, no_headers}
+use Rattle.ar_index.specs.Reading.{IsIndexFault, IsPassed}
+use Rattle.ar_index.proofs.Walk.{first_header, no_headers}
 
 -- what `?` returns of a fault that stands
 pub passed : {X : Type 0} (bytes : List ℕ) (r : Result X ArFault) (f : ArFault) → (y : ArFault) × (r ≡ Err y) × (y ≡ f) → ArFaultStands bytes f
@@ -35,7 +35,7 @@ only_memory bytes (Ok x) stands a = stands
 only_memory bytes (Err f) stands a = only bytes f a stands
 
 -- where all headers were passed, every member is intact
-module _ (bytes : List ℕ) (kept : List StoredMember) (all : Passed bytes kept) where
+module _ (bytes : List ℕ) (kept : List StoredMember) (all : IsPassed bytes kept) where
   intact : All (IsIntact bytes) (header_offsets bytes)
   intact k d within = let readable = all.readable k d within in record { readable = readable; inside = (all.whole k d within).data_and_pad readable }
 

@@ -8,7 +8,7 @@ use Rattle.elf_model.specs.Inputs.ArchiveFile.{ArFaultStands, HasMagic, IsGoodHe
 use Rattle.elf_model.specs.declared.faults.ArFault.{ArFault}
 use Rattle.elf_model.specs.declared.faults.ArFault.TheVariants as fault
 use Rattle.elf_model.proofs.Rests.{Left}
-use Rattle.ar_index.specs.Reading.{IsFaultAt}
+use Rattle.ar_index.specs.Reading.{IsFaultAt, IsPassed, IsReadable}
 
 -- the offsets from a header on
 offsets_by : (n : ℕ) (bytes : List ℕ) (at : ℕ) (inside readable : Bool) → nat_lt at (length bytes) ≡ inside → is_readable bytes at ≡ readable
@@ -17,7 +17,7 @@ offsets_by n bytes at inside readable e f =
     (λ i. cond (e i) (at ∷ cond (f i) (header_offsets_from n bytes (next_header bytes at)) []) [])
 
 -- a header that can be read is the first of those from it on
-offsets_first : (n m : ℕ) (bytes : List ℕ) (at : ℕ) → n ≡ suc m → at < length bytes → is_readable bytes at ≡ true
+pub offsets_first : (n m : ℕ) (bytes : List ℕ) (at : ℕ) → n ≡ suc m → at < length bytes → is_readable bytes at ≡ true
     → header_offsets_from n bytes at ≡ at ∷ header_offsets_from m bytes (next_header bytes at)
 offsets_first n m bytes at e inside readable =
     ap (λ (k : ℕ). header_offsets_from k bytes at) e ∙ offsets_by m bytes at true true (lt-ltb at (length bytes) inside) readable
@@ -28,12 +28,9 @@ offsets_begin : (n m : ℕ) (bytes : List ℕ) (at : ℕ) → n ≡ suc m → at
 offsets_begin n m bytes at e inside =
     ap (λ (k : ℕ). header_offsets_from k bytes at) e ∙ offsets_by m bytes at true (is_readable bytes at) (lt-ltb at (length bytes) inside) refl
 
-offsets_end : (n : ℕ) (bytes : List ℕ) (at : ℕ) → length bytes ≤ at → header_offsets_from n bytes at ≡ []
+pub offsets_end : (n : ℕ) (bytes : List ℕ) (at : ℕ) → length bytes ≤ at → header_offsets_from n bytes at ≡ []
 offsets_end zero bytes at past = refl
 offsets_end (suc n) bytes at past = offsets_by n bytes at false (is_readable bytes at) (le-ltb at (length bytes) past) refl
-
-abbrev pub IsReadable : List ℕ → ℕ → Type 0
-IsReadable bytes at = is_readable bytes at ≡ true
 
 -- members from some headers
 abbrev stored_at : List ℕ → List ℕ → List StoredMember
@@ -94,14 +91,7 @@ walk_goes_on bytes kept now at next walked inside readable whole good next_is no
       readable = left_more (IsReadable bytes) (All (IsReadable bytes) (header_offsets bytes)) at (header_offsets_from n bytes at) rest first readable walked.readable;
     }
 
--- what is known of a file whose headers were all passed
-pub record Passed (bytes : List ℕ) (kept : List StoredMember) : Type 0 where
-  pub members : kept ≡ stored_members bytes
-  pub whole : All (IsWhole bytes) (header_offsets bytes)
-  pub headers : All (IsGoodHeader bytes) (header_offsets bytes)
-  pub readable : All (IsReadable bytes) (header_offsets bytes)
-
-pub walk_ends : (bytes : List ℕ) (kept : List StoredMember) (at : ℕ) → Walked bytes kept at → length bytes ≤ at → Passed bytes kept
+pub walk_ends : (bytes : List ℕ) (kept : List StoredMember) (at : ℕ) → Walked bytes kept at → length bytes ≤ at → IsPassed bytes kept
 walk_ends bytes kept at walked past =
     let n = length bytes - length kept in
     let none = offsets_end n bytes at past in

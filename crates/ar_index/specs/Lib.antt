@@ -1,1 +1,3 @@
+pub mod FileBytes
+pub mod Parts
 pub mod Reading

@@ -1,6 +1,6 @@
 -- What is judged of an archive step by step, and what is kept of it.
-use Rattle.std.specs.Prelude.{ℕ, ◌≡◌, ◌≢◌, ◌↔◌, ◌<◌, ◌≤◌, ◌+◌, ◌*◌, ◌%◌, List, AllPairs, IsTrue, Option, codes, drop, length, slice_index, take}
-use Rattle.elf_model.specs.Inputs.ArchiveFile.{HasLongText, IndexEntry, IsArchive, IsGoodHeader, IsWhole, Member, entry_count, index, is_number, members}
+use Rattle.std.specs.Prelude.{ℕ, ◌≡◌, ◌≢◌, ◌↔◌, ◌<◌, ◌≤◌, ◌+◌, ◌*◌, ◌%◌, List, All, AllPairs, IsTrue, true, Option, codes, drop, length, slice_index, take}
+use Rattle.elf_model.specs.Inputs.ArchiveFile.{HasLongText, IndexEntry, IsArchive, IsGoodHeader, IsWhole, Member, StoredMember, entry_count, header_offsets, index, is_number, is_readable, members, stored_members}
 use Rattle.elf_model.specs.declared.faults.ArFault.{ArFault}
 use Rattle.elf_model.specs.declared.faults.ArFault.TheVariants as fault
 
@@ -22,6 +22,17 @@ pub record IsPadded (bytes : List ℕ) (end size : ℕ) : Type 0 where
 abbrev pub IsPadFault : List ℕ → ℕ → ℕ → ArFault → Type 0
 IsPadFault bytes end size f =
     IsMemberFault (length bytes < end + size % 2) ((size % 2 ≡ 1) × (end < length bytes) × (slice_index bytes end ≢ 10)) f
+
+-- a header can be read
+abbrev pub IsReadable : List ℕ → ℕ → Type 0
+IsReadable bytes at = is_readable bytes at ≡ true
+
+-- all headers of a file were passed without a fault, and its members are these
+pub record IsPassed (bytes : List ℕ) (kept : List StoredMember) : Type 0 where
+  pub members : kept ≡ stored_members bytes
+  pub whole : All (IsWhole bytes) (header_offsets bytes)
+  pub headers : All (IsGoodHeader bytes) (header_offsets bytes)
+  pub readable : All (IsReadable bytes) (header_offsets bytes)
 
 -- a name field begins with a slash, and a decimal number follows
 abbrev pub IsLongNameField : List ℕ → Type 0

@@ -2,7 +2,7 @@
 ghost use Rattle.std.specs.Prelude.{◌≡◌, ◌≤◌, ◌<◌, ◌+◌, ◌-◌, ◌%◌, ◌^◌, All, length, true, IfErr, IfOk};
 ghost use Rattle.elf_model.specs.Inputs.ArchiveFile as archive;
 ghost use Rattle.elf_model.specs.Inputs.ArchiveFile.{ArFaultStands, HasMagic, IsGoodHeader, IsWhole, header_offsets, is_readable, next_header, size_at, stored_member, stored_members};
-ghost use Rattle.ar_index.specs.Reading.{IsFaultAt, IsPadFault, IsPadded};
+ghost use Rattle.ar_index.specs.Reading.{IsFaultAt, IsPadFault, IsPadded, IsPassed};
 
 use crate::fields::number_in;
 use byteview::{View, equal_run};
@@ -11,7 +11,10 @@ use std::alloc::Global;
 use std::marker::Model;
 
 /// How many bytes a member's header has (ar(5), struct ar_hdr).
-const HEADER_SIZE: usize = 60;
+pub const HEADER_SIZE: usize = 60;
+
+/// Files of this many bytes and more are refused.
+pub const FILE_LIMIT: usize = 1 << 32;
 
 /// A member as it is stored: the offset of its header in the file, its name field of 16 bytes, its data.
 #[derive(Drop)]
@@ -33,6 +36,22 @@ impl<'a> Model for StoredMember<'a> {
 }
 
 impl<'a> StoredMember<'a> {
+    /// The member whose header is at an offset, by its name field and its data.
+    pub fn new(offset: usize, name: &'a [u8], bytes: &'a [u8]) -> StoredMember<'a>
+        requires { length name.now ≤ 16 }
+        ensures { result ≡ record {
+          offset = offset;
+          name = name.entry.now;
+          bytes = bytes.entry.now;
+        } }
+    {
+        StoredMember {
+            offset,
+            name,
+            bytes,
+        }
+    }
+
     /// The offset of the member's header in the file.
     pub fn offset(&self) -> usize
         ensures { result ≡ self.now.offset }
@@ -125,11 +144,7 @@ fn read_member<'a>(file: &View<'a>, at: usize) -> Result<StoredMember<'a>, ArFau
 pub fn read_members<'a>(alloc: Global, file: &View<'a>) -> Result<Vec<StoredMember<'a>>, ArFault>
     requires magic { HasMagic file.now }
     requires small { length file.now < 2 ^ 32 }
-    ensures members { IfOk result (λ v. v.items ≡ stored_members file.now) }
-    ensures whole { IfOk result (λ _. All (IsWhole file.now) (header_offsets file.now)) }
-    ensures headers { IfOk result (λ _. All (IsGoodHeader file.now) (header_offsets file.now)) }
-    ensures readable { IfOk result (λ _.
-        All (λ at. is_readable file.now at ≡ true) (header_offsets file.now)) }
+    ensures passed { IfOk result (λ v. IsPassed file.now v.items) }
     ensures fault { IfErr result (ArFaultStands file.now) }
 {
     let mut members = Vec::new(alloc);

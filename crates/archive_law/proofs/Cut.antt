@@ -29,7 +29,7 @@ length_spread a b c d e f =
     ∙ ap (λ (n : ℕ). n + length c + length d + length e + length f) (length-append a b)
 
 -- the pad has a byte where the data are odd in number, and it is a line feed
-length-pad : (data_ : List ℕ) → length (pad data_) ≡ length data_ % 2
+pub length-pad : (data_ : List ℕ) → length (pad data_) ≡ length data_ % 2
 length-pad data_ = by (eqb (length data_ % 2) 1) refl
   where
     by : (b : Bool) → eqb (length data_ % 2) 1 ≡ b → length (cond {A = List ℕ} b (10 ∷ []) []) ≡ length data_ % 2

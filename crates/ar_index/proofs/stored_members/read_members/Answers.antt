@@ -2,7 +2,7 @@ use Rattle.std.proofs.Common.{ℕ, ◌+◌, ◌%◌, List, [], ◌∷◌, ◌++�
 use Rattle.std.proofs.lemmas.Result.{err_from_is_err_and}
 use Rattle.elf_model.specs.Inputs.ArchiveFile.{StoredMember}
 use Rattle.ar_index.proofs.Steps.{passed}
-use Rattle.ar_index.proofs.Walk.{Passed, walk_begins, walk_ends, walk_fails, walk_goes_on}
+use Rattle.ar_index.proofs.Walk.{walk_begins, walk_ends, walk_fails, walk_goes_on}
 use Rattle.ar_index.proofs.stored_members.read_members.Goals as goal
 
 pub loop-at-init : goal.loop-at-init
@@ -23,17 +23,5 @@ returns-in_err-member-clause-fault c =
     passed c.args.file.now exit.result f (err_from_is_err_and exit.result exit.ensures.1)
     (walk_fails c.args.file.now c.loop-at.members.items c.loop-at.at f c.loop-at.invariant (omega (arith, c.len.ensures)) c.requires.magic c.in_err-member.ensures.fault)
 
-ends : (c : goal.After-loop-at) → Passed c.args.file.now c.loop-at.members.items
-ends c = walk_ends c.args.file.now c.loop-at.members.items c.loop-at.at c.loop-at.invariant (omega (arith, c.len.ensures))
-
-pub returns-clause-members : goal.returns-clause-members
-returns-clause-members c = (ends c).members
-
-pub returns-clause-whole : goal.returns-clause-whole
-returns-clause-whole c = (ends c).whole
-
-pub returns-clause-headers : goal.returns-clause-headers
-returns-clause-headers c = (ends c).headers
-
-pub returns-clause-readable : goal.returns-clause-readable
-returns-clause-readable c = (ends c).readable
+pub returns-clause-passed : goal.returns-clause-passed
+returns-clause-passed c = walk_ends c.args.file.now c.loop-at.members.items c.loop-at.at c.loop-at.invariant (omega (arith, c.len.ensures))
