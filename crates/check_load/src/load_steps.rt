@@ -68,7 +68,7 @@ fn load_single<'a>(
     if item.archive {
         return turn(alloc, places, loader, input);
     }
-    loader.add(alloc, places, &item, 0, item.bytes)
+    loader.add(alloc, places, &item, 0, input.object_bytes())
 }
 
 /// Loads the first step of inputs, and answers how many these are.

@@ -4,6 +4,7 @@ ghost use Rattle.std.specs.List.{slice_get};
 ghost use Rattle.command.specs.Views.{item_of};
 ghost use Rattle.elf_model.specs.Inputs.Command as command;
 ghost use Rattle.elf_model.specs.Inputs.Files.{File, files_of};
+ghost use Rattle.opening.specs.Held.{all_files};
 ghost use Rattle.explain.specs.Places.{AreSo, HoldsOf, IsOffsetOf, IsOpened, OfPlan};
 
 use crate::place::{Added, Found, Place};
@@ -11,7 +12,7 @@ use bad_members::bad_member;
 use bad_parts::bad_part;
 use command::{Item, Plan};
 use elf_model::{ArFault, InputFile};
-use opening::{FileIndex, OpenFault, OpenedItem, find_source, read_input};
+use opening::{FileSet, OpenFault, OpenedItem, find_source, read_input};
 use search::{Reached, SearchFault, refused_object};
 use std::alloc::{AllocError, Global};
 
@@ -33,16 +34,19 @@ fn bad_archive<'a>(alloc: Global, item: &OpenedItem<'a>) -> Wrong<'a>
     ensures { (files : List File) (plan : command.Plan) →
         IsOpened files plan item.now → IfOk result (λ o. IfSome o (HoldsOf files plan)) }
 {
+    let Some(bytes) = item.bytes.whole() else {
+        return Ok(None);
+    };
     let whole = Reached {
         item: item.number,
         path: item.path,
         offset: 0,
-        bytes: item.bytes,
+        bytes,
     };
     match read_input(alloc, item) {
         Ok(_) => Ok(None),
         Err(OpenFault::BadArchive(fault)) => {
-            let offset = member_offset(item.bytes, fault);
+            let offset = member_offset(bytes, fault);
             Ok(Some(Place::Archive(Reached { offset, ..whole }, fault)))
         }
         Err(OpenFault::NoIndex) => Ok(Some(Place::NoIndex(whole))),
@@ -60,12 +64,12 @@ fn item_at<'p, 'a>(plan: &'p Plan<'a>, i: usize) -> Option<&'p Item<'a>>
 /// Item `i` of a plan, where it has no file; where files are opened, also where it can't be searched.
 fn wrong_item<'a>(
     alloc: Global,
-    files: &FileIndex<'a>,
+    files: &FileSet<'a>,
     plan: &Plan<'a>,
     i: usize,
     open: bool,
 ) -> Wrong<'a>
-    ensures { IfOk result (λ o. IfSome o (HoldsOf files.now plan.now)) }
+    ensures { IfOk result (λ o. IfSome o (HoldsOf (all_files files.now) plan.now)) }
 {
     let Some(item) = item_at(plan, i) else {
         return Ok(None);
@@ -121,7 +125,7 @@ pub fn add_unloaded<'a>(
         _ => true,
     };
     let alloc = found.alloc;
-    let index = FileIndex::new(alloc, files)?;
+    let index = FileSet::new(alloc, &[], files)?;
     for i in 0..plan.items.len() {
         found.add(wrong_item(alloc, &index, plan, i, open)?)?;
     }

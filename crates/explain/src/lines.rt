@@ -11,7 +11,7 @@ use command::read_words;
 use elf_model::{ArFault, CmdFault, InputFile};
 use elf_read::ObjectFile;
 use input_names::Name;
-use opening::{FileIndex, find_source};
+use opening::{FileSet, find_source};
 use std::alloc::{AllocError, Global};
 use std::collections::BTreeMap;
 use std::io;
@@ -50,11 +50,12 @@ fn write_passed_archive<W: Write>(out: &mut W, inputs: Inputs<'_>, name: &[u8]) 
         Err(CmdFault::Memory) => return Err(AllocError.into()),
         Err(_) => return Ok(()),
     };
-    let index = FileIndex::new(alloc, inputs.files)?;
+    let index = FileSet::new(alloc, &[], inputs.files)?;
     for (i, item) in plan.items.iter().enumerate() {
         if let Some((path, file)) = find_source(alloc, &index, &plan.directories, item.source)?
             && item.archive
-            && has_name(alloc, file, name)?
+            && let Some(bytes) = file.whole()
+            && has_name(alloc, bytes, name)?
         {
             let (path, name) = (Name(path.as_bytes()), Name(name));
             return write!(

@@ -26,11 +26,10 @@ fn input_at<'s, 'a>(inputs: &'s [Input<'a>], item: u64) -> Option<&'s Input<'a>>
 fn bytes_of<'a>(input: &Input<'a>, row: &ObjectLine) -> &'a [u8]
     ensures { result.now ≡ row_bytes input.now (object_row row.now) }
 {
-    let item = input.item();
-    if item.archive {
+    if input.item().archive {
         return input.data_at(row.offset);
     }
-    item.bytes
+    input.object_bytes()
 }
 
 /// Loads the object of a line: the member of its item whose header is at its offset, or its item itself; nothing where there is

@@ -1,4 +1,5 @@
 pub mod FaultLaws
+pub mod HeldLaws
 pub mod OpenedLaws
 pub mod StepLaws
 pub mod TurnSteps

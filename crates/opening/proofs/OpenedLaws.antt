@@ -1,18 +1,23 @@
 -- Items as they are opened, and archives as they are read.
-use Rattle.std.proofs.Common.{◌≡◌, ℕ, suc, ◌+◌, ◌<◌, List, [], ◌∷◌, ◌++◌, length, get_or, drop, drop-cons, map, Option, Some, None, refl, sym, ◌∙◌, ap, subst, arith, append_assoc}
-use Rattle.std.specs.Prelude.{◌↔◌, All, Any, IsSome, option_map, unwrap_or}
+use Rattle.std.proofs.Common.{◌≡◌, ℕ, suc, ◌+◌, ◌<◌, List, [], ◌∷◌, ◌++◌, length, get_or, drop, drop-cons, map, take, Option, Some, None, inl, inr, refl, sym, ◌∙◌, ap, subst, arith, append_assoc}
+use Rattle.std.specs.Prelude.{◌↔◌, All, Any, IsSome, IsTrue, codes, option_map, unwrap_or}
+use Rattle.std.specs.Borrow.{Bor}
 use Rattle.std.specs.List.{find}
 use Rattle.std.proofs.lemmas.Bool.{false≢true}
-use Rattle.std.proofs.lemmas.List.{get_or-map, length-map, map-append}
-use Rattle.std.proofs.lemmas.List.Elements.{All-cons, All-head, All-tail}
+use Rattle.std.proofs.lemmas.List.{get_or-map, length-map, map-append, take_more}
+use Rattle.std.proofs.lemmas.List.Elements.{All-cons, All-head, All-push, All-tail}
 use Rattle.std.proofs.lemmas.Option.{none-some, same_Some}
-use Rattle.command.specs.Views.{item_of, source_of}
+use Rattle.command.specs.Views.{item_of, source_of, texts_of}
 use Rattle.command.specs.declared.items.Item.{Item}
 use Rattle.elf_model.specs.Inputs.Command as command
-use Rattle.elf_model.specs.Inputs.Command.{paths_of}
+use Rattle.elf_model.specs.Inputs.Command.{library_paths, paths_of}
 use Rattle.elf_model.specs.Inputs.Files.{File}
 use Rattle.elf_model.specs.Inputs.Opening.{HasFile, Opened, bytes_of, is_file, opened_from, opened_item}
-use Rattle.opening.specs.Opened.{file_at, first_found, item_view}
+use Rattle.ar_index.specs.FileBytes.{is_whole}
+use Rattle.ar_index.specs.Parts.{PartialFile}
+use Rattle.ar_index.specs.declared.file_bytes.FileBytes.{FileBytes}
+use Rattle.opening.specs.Held.{IsApart, IsSearchedOrWhole, is_part_named}
+use Rattle.opening.specs.Opened.{HasWholeObject, file_at, first_found, item_view}
 use Rattle.opening.specs.Faults.{AreUnsearchable, IsUnsearchable}
 use Rattle.opening.specs.declared.faults.OpenFault.{OpenFault}
 use Rattle.opening.specs.declared.faults.OpenFault.TheVariants as error
@@ -75,6 +80,47 @@ module _ (files : List File) (directories : List (List ℕ)) (items : List Item)
     where
       later : List Opened
       later = opened_from files directories (i + 1) (map item_of (drop (i + 1) items))
+
+-- no file that was read in part is at the path of a library
+pub apart_at :
+    (parts : List PartialFile) (directories : List (Bor (List ℕ))) (name : List ℕ) (i : ℕ) (d : Bor (List ℕ)) → i < length directories →
+    IsApart parts (library_paths (texts_of directories) name) →
+    find (is_part_named ((get_or directories i d).now ++ (codes "/lib" ++ (name ++ codes ".a")))) parts ≡ None
+apart_at parts directories name i d within apart =
+    let path = λ (t : List ℕ). t ++ (codes "/lib" ++ (name ++ codes ".a")) in
+    let inside : i < length (texts_of directories) = subst (λ (n : ℕ). i < n) (sym (length-map directories (λ t. t.now))) within in
+    subst (λ (p : List ℕ). find (is_part_named p) parts ≡ None)
+    (get_or-map path (texts_of directories) i d.now (path d.now) inside ∙ ap path (get_or-map (λ (t : Bor (List ℕ)). t.now) directories i d d.now within))
+    (apart i (path d.now) (subst (λ (n : ℕ). i < n) (sym (length-map (texts_of directories) path)) inside))
+
+-- an item that is no archive has a file that was read whole
+pub objects_step :
+    (parts : List PartialFile) (directories : List (List ℕ)) (items : List Item) (i : ℕ) (d : Item) → i < length items →
+    (old new : List OpenedItem) (x : OpenedItem) (bytes : FileBytes) → new ≡ old ++ x ∷ [] → x.bytes ≡ bytes → x.archive ≡ (get_or items i d).archive →
+    All (IsSearchedOrWhole parts directories) (map item_of items) → All HasWholeObject old →
+    (IsApart parts (paths_of directories (source_of (get_or items i d).source)) → IsTrue (is_whole bytes)) → All HasWholeObject new
+objects_step parts directories items i d within old new x bytes now held archive searched all whole =
+    subst (All HasWholeObject) (sym now) (All-push HasWholeObject old x all here)
+  where
+    own : IsSearchedOrWhole parts directories (item_of (get_or items i d))
+    own = subst (IsSearchedOrWhole parts directories) (get_or-map item_of items i d (item_of d) within) (searched i (item_of d) (subst (λ (n : ℕ). i < n) (sym (length-map items item_of)) within))
+
+    here : HasWholeObject x
+    here object = subst (λ (b : FileBytes). IsTrue (is_whole b)) (sym held) (by own)
+      where
+        by : IsSearchedOrWhole parts directories (item_of (get_or items i d)) → IsTrue (is_whole bytes)
+        by (inl is) = absurd (false≢true (sym object ∙ archive ∙ is.0))
+        by (inr apart) = whole apart
+
+-- the first items, and one more
+pub searched_more :
+    (parts : List PartialFile) (directories : List (List ℕ)) (items : List Item) (i : ℕ) (d : Item) → i < length items →
+    All (IsSearchedOrWhole parts directories) (map item_of (take i items)) → IsSearchedOrWhole parts directories (item_of (get_or items i d)) →
+    All (IsSearchedOrWhole parts directories) (map item_of (take (i + 1) items))
+searched_more parts directories items i d within all here =
+    let P = IsSearchedOrWhole parts directories in
+    subst (λ (is : List Item). All P (map item_of is)) (sym (take_more items i d within))
+    (subst (All P) (sym (map-append item_of (take i items) (get_or items i d ∷ []))) (All-push P (map item_of (take i items)) (item_of (get_or items i d)) all here))
 
 -- Archives that can't be searched.
 among : (items : List OpenedItem) (i : ℕ) (d : OpenedItem) (P : Opened → Type 0) → i < length items → P (item_view (get_or items i d)) → Any P (map item_view items)

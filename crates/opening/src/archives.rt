@@ -1,13 +1,14 @@
 //! The archives among the items of a plan, and what they hold.
 ghost use Rattle.std.specs.Prelude.{◌≡◌, true, false, [], unwrap_or, All, IfErr, IfOk, IfSome, IsTrue, OnOk, is_some, map, option_copied};
-ghost use Rattle.elf_model.specs.Inputs.ArchiveFile.{IsArchive};
+ghost use Rattle.ar_index.specs.FileBytes.{held_bytes};
+ghost use Rattle.elf_model.specs.Inputs.ArchiveFile.{ArFaultStands, IsArchive};
 ghost use Rattle.elf_model.specs.Inputs.Opening.{AreArchives, HaveIndexes, archive_data, archive_entries, archive_members, is_unindexed, lacks_index};
-ghost use Rattle.opening.specs.Opened.{item_view};
+ghost use Rattle.opening.specs.Opened.{HasWholeObject, item_view};
 ghost use Rattle.opening.specs.Faults.{AreUnsearchable, IsUnsearchable};
 
 use crate::faults::{OpenFault, archive_fault};
 use crate::opened_items::OpenedItem;
-use ar_index::{Archive, IndexEntry, Member};
+use ar_index::{ArFault, Archive, FileBytes, IndexEntry, Member};
 use byteview::View;
 use std::alloc::Global;
 use std::marker::Model;
@@ -21,13 +22,13 @@ pub struct Input<'a> {
 
 impl<'a> Model for Input<'a> {
     ghost use Rattle.elf_model.specs.Inputs.Opening.{Opened};
-    ghost use Rattle.opening.specs.Opened.{IsInput, item_view};
+    ghost use Rattle.opening.specs.Opened.{HasWholeObject, IsInput, item_view};
 
     ghost Value = { Opened };
 
     ghost view = { λ i. item_view i.item };
 
-    ghost invariant = { λ i. IsInput (item_view i.item) i.archive };
+    ghost invariant = { λ i. IsInput (item_view i.item) i.archive × HasWholeObject i.item };
 }
 
 impl<'a> Input<'a> {
@@ -36,6 +37,17 @@ impl<'a> Input<'a> {
         ensures { item_view result ≡ self.now }
     {
         self.item
+    }
+
+    /// The bytes of an object.
+    pub fn object_bytes(&self) -> &'a [u8]
+        requires { self.now.archive ≡ false }
+        ensures { result.now ≡ self.now.bytes }
+    {
+        match self.item.bytes {
+            FileBytes::Whole(bytes) => bytes,
+            FileBytes::Parts(_) => unreachable!(),
+        }
     }
 
     /// What it holds; None of an object.
@@ -95,15 +107,27 @@ fn is_unindexed(archive: &Archive<'_>) -> bool
     !archive.members().is_empty() && archive.index().is_none()
 }
 
+/// Reads the archive in a file's bytes.
+fn archive_in<'a>(alloc: Global, bytes: FileBytes<'a>) -> Result<Archive<'a>, ArFault>
+    ensures exact { IfOk result (λ a. a ≡ held_bytes bytes.entry) }
+    ensures archive { OnOk result (IsArchive (held_bytes bytes.entry)) }
+    ensures fault { IfErr result (ArFaultStands (held_bytes bytes.entry)) }
+{
+    match bytes {
+        FileBytes::Whole(bytes) => Archive::read(alloc, View::new(bytes)),
+        FileBytes::Parts(file) => Archive::read_parts(alloc, file),
+    }
+}
+
 /// Reads the archive of an item, and judges whether it can be searched.
 fn read_archive<'a>(alloc: Global, item: &OpenedItem<'a>) -> Result<Archive<'a>, OpenFault>
     requires { item.now.archive ≡ true }
-    ensures exact { IfOk result (λ a. a ≡ item.now.bytes.now) }
-    ensures archive { OnOk result (IsArchive item.now.bytes.now) }
+    ensures exact { IfOk result (λ a. a ≡ held_bytes item.now.bytes) }
+    ensures archive { OnOk result (IsArchive (held_bytes item.now.bytes)) }
     ensures index { OnOk result (lacks_index (item_view item.now) ≡ false) }
     ensures fault { IfErr result (λ e. IsUnsearchable e (item_view item.now)) }
 {
-    let archive = match Archive::read(alloc, View::new(item.bytes)) {
+    let archive = match archive_in(alloc, item.bytes) {
         Ok(archive) => archive,
         Err(fault) => return Err(archive_fault(fault)),
     };
@@ -115,8 +139,9 @@ fn read_archive<'a>(alloc: Global, item: &OpenedItem<'a>) -> Result<Archive<'a>,
 
 /// Reads what an item holds where it is an archive.
 pub fn read_input<'a>(alloc: Global, item: &OpenedItem<'a>) -> Result<Input<'a>, OpenFault>
+    requires { HasWholeObject item.now }
     ensures exact { IfOk result (λ i. i ≡ item_view item.now) }
-    ensures archive { OnOk result (item.now.archive ≡ true → IsArchive item.now.bytes.now) }
+    ensures archive { OnOk result (item.now.archive ≡ true → IsArchive (held_bytes item.now.bytes)) }
     ensures index { OnOk result (item.now.archive ≡ true
         → lacks_index (item_view item.now) ≡ false) }
     ensures fault { IfErr result (λ e. IsUnsearchable e (item_view item.now)) }
@@ -136,6 +161,7 @@ pub fn read_input<'a>(alloc: Global, item: &OpenedItem<'a>) -> Result<Input<'a>,
 
 /// Reads what items hold, in order.
 pub fn read_inputs<'a>(alloc: Global, items: &[OpenedItem<'a>]) -> Result<Vec<Input<'a>>, OpenFault>
+    requires { All HasWholeObject items.now }
     ensures exact { IfOk result (λ v. v.items ≡ map item_view items.now) }
     ensures archives { OnOk result (AreArchives (map item_view items.now)) }
     ensures indexes { OnOk result (HaveIndexes (map item_view items.now)) }

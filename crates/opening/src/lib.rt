@@ -9,9 +9,11 @@ mod faults;
 mod files;
 mod inputs;
 mod opened_items;
+mod searched;
 
 pub use archives::{Input, read_input};
 pub use faults::OpenFault;
-pub use files::FileIndex;
-pub use inputs::inputs_of;
+pub use files::{FileIndex, FileSet};
+pub use inputs::{inputs_of, inputs_of_parts};
 pub use opened_items::{OpenedItem, find_source};
+pub use searched::are_searched;

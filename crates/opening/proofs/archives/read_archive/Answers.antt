@@ -1,5 +1,4 @@
-use Rattle.std.proofs.Common.{ℕ, List, subst, sym}
-use Rattle.elf_model.specs.Inputs.ArchiveFile.{ArFaultStands}
+use Rattle.std.proofs.Common.{subst, sym}
 use Rattle.opening.specs.Faults.{IsUnsearchable}
 use Rattle.opening.specs.Opened.{item_view}
 use Rattle.opening.specs.declared.faults.OpenFault.{OpenFault}
@@ -9,5 +8,4 @@ use Rattle.opening.proofs.archives.read_archive.Goals as goal
 pub returns-in-Err-clause-fault : goal.returns-in-Err-clause-fault
 returns-in-Err-clause-fault c =
     subst (λ (e : OpenFault). IsUnsearchable e (item_view c.args.item.now)) (sym c.archive_fault.ensures)
-    (archive_fails (item_view c.args.item.now) c.in-Err.fault c.requires
-    (subst (λ (bytes : List ℕ). ArFaultStands bytes c.in-Err.fault) c.new.ensures c.in-Err.ensures.fault))
+    (archive_fails (item_view c.args.item.now) c.in-Err.fault c.requires c.in-Err.ensures.fault)
