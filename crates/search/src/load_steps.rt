@@ -7,6 +7,7 @@ ghost use Rattle.elf_model.specs.Link.Loading.{AreObjects, HaveLawfulGroups, Loa
 ghost use Rattle.elf_model.specs.Link.LoadingRules.{FollowsRules};
 ghost use Rattle.elf_model.specs.Inputs.Opening.{AreArchives, AreFilesThere, HaveIndexes, opened};
 ghost use Rattle.opening.specs.Faults.{ReadsBadly};
+ghost use Rattle.opening.specs.Held.{AreSearched, held_files};
 ghost use Rattle.search.specs.Faults.{FailsOn, IsRefusedIn, IsRefusedOf, LoadFails};
 ghost use Rattle.search.specs.Loaders.{IsLater, Knows, loaded};
 ghost use Rattle.search.specs.Loads.{AreDroppedInOrder};
@@ -20,9 +21,10 @@ use crate::loader::{Loader, Reached, RefusedObject};
 use crate::names::{NameNumbers, NameSet};
 use crate::rounds::{run_round, run_rounds};
 use crate::waits::Waits;
+use ar_index::PartFile;
 use command::Plan;
 use elf_model::{InputFile, NameSeed};
-use opening::{Input, OpenFault, inputs_of};
+use opening::{Input, OpenFault, inputs_of, inputs_of_parts};
 use std::alloc::{AllocError, Global};
 use std::slice;
 use symbols::NameTable;
@@ -68,7 +70,7 @@ fn load_single<'a, N: NameNumbers<'a>>(
 {
     let item = input.item();
     if !item.archive {
-        return loader.add(alloc, &item, 0, item.bytes);
+        return loader.add(alloc, &item, 0, input.object_bytes());
     }
     let alone = slice::from_ref(input);
     let mut waits = Waits::new(alloc, loader, alone)?;
@@ -103,7 +105,7 @@ fn load_step<'a, N: NameNumbers<'a>>(
 }
 
 /// Loads inputs, in order.
-fn load_inputs<'a, N: NameNumbers<'a>>(
+pub fn load_inputs<'a, N: NameNumbers<'a>>(
     alloc: Global,
     loader: &mut Loader<'_, 'a, N>,
     inputs: &[Input<'a>],
@@ -134,10 +136,58 @@ fn load_inputs<'a, N: NameNumbers<'a>>(
 ///
 /// Names are found by hash, from a seed: who picks the names can make them collide only where the seed is known.
 ///
+/// Of archives that are searched the data of some members may not have been read: zeros stand for these, which are no object, so
+/// that none of these members is loaded.
+///
 /// # Errors
 ///
 /// FileMissing where an item has no file, before all others. BadArchive and NoIndex of an archive item, of
 /// whichever; then BadObject and Group of an object that loading comes to. Memory where memory is refused.
+pub fn load_parts<'a>(
+    alloc: Global,
+    plan: &Plan<'a>,
+    parts: &'a [PartFile],
+    files: &'a [InputFile],
+    seed: NameSeed,
+) -> Result<Loaded<'a>, SearchFault>
+    requires { AreSearched parts.now plan.now }
+    ensures plan { IfOk result (λ l. l.plan ≡ plan.now) }
+    ensures loaded { IfOk result (λ l. l.objects
+        ≡ loaded_objects (held_files parts.entry.now files.entry.now) plan.now) }
+    ensures rules { OnOk result (FollowsRules (held_files parts.entry.now files.entry.now) plan.now) }
+    ensures files { OnOk result (AreFilesThere (held_files parts.entry.now files.entry.now) plan.now) }
+    ensures archives { OnOk result (AreArchives (opened (held_files parts.entry.now files.entry.now) plan.now)) }
+    ensures indexes { OnOk result (HaveIndexes (opened (held_files parts.entry.now files.entry.now) plan.now)) }
+    ensures objects { OnOk result (AreObjects
+        (loaded_objects (held_files parts.entry.now files.entry.now) plan.now)) }
+    ensures groups { OnOk result (HaveLawfulGroups
+        (loaded_objects (held_files parts.entry.now files.entry.now) plan.now)) }
+    ensures dropped { OnOk result (AreDroppedInOrder
+        (loaded_objects (held_files parts.entry.now files.entry.now) plan.now)) }
+    ensures fault { IfErr result (LoadFails (held_files parts.entry.now files.entry.now) plan.now) }
+{
+    let inputs = inputs_of_parts(alloc, plan, parts, files)?;
+    let mut loader = Loader::new(alloc, plan, seed, NameSet::new(alloc, seed))?;
+    match load_inputs(alloc, &mut loader, &inputs) {
+        Ok(()) => {
+            let (objects, names) = loader.into_parts();
+            let loaded = Loaded::new(alloc, plan, objects, names)?;
+            Ok(loaded)
+        }
+        Err(fault) => {
+            drop(loader);
+            Err(fault)
+        }
+    }
+}
+
+/// The plan, and the objects that it loads, in load order (ld(1)).
+///
+/// As `load_parts`, of files that were read whole.
+///
+/// # Errors
+///
+/// As `load_parts`.
 pub fn load_seeded<'a>(
     alloc: Global,
     plan: &Plan<'a>,
@@ -159,19 +209,7 @@ pub fn load_seeded<'a>(
         (loaded_objects (files_of files.entry.now) plan.now)) }
     ensures fault { IfErr result (LoadFails (files_of files.entry.now) plan.now) }
 {
-    let inputs = inputs_of(alloc, plan, files)?;
-    let mut loader = Loader::new(alloc, plan, seed, NameSet::new(alloc, seed))?;
-    match load_inputs(alloc, &mut loader, &inputs) {
-        Ok(()) => {
-            let (objects, names) = loader.into_parts();
-            let loaded = Loaded::new(alloc, plan, objects, names)?;
-            Ok(loaded)
-        }
-        Err(fault) => {
-            drop(loader);
-            Err(fault)
-        }
-    }
+    load_parts(alloc, plan, &[], files, seed)
 }
 
 /// The object that loading has come to, where it can't be loaded, and why.
