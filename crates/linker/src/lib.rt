@@ -17,5 +17,5 @@ mod spelled_lines;
 
 pub use listed_definitions::definitions;
 pub use own_text::{map_text, write_map};
-pub use phases::{link_map, prepare, prepare_in, prepare_seeded};
+pub use phases::{link_map, prepare, prepare_in, prepare_parts, prepare_seeded};
 pub use refusals::command_error;

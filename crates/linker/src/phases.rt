@@ -1,7 +1,7 @@
 //! From the words and the files to a link that is prepared, phase by phase, and from that to its map.
-ghost use Rattle.std.specs.Prelude.{◌≡◌, IfErr, IfOk, OnOk, map};
+ghost use Rattle.std.specs.Prelude.{◌≡◌, IfErr, IfOk, Ok, OnOk, map};
 ghost use Rattle.elf_model.specs.Own.Causes.{Cause};
-ghost use Rattle.elf_model.specs.Inputs.Command.{IsBase};
+ghost use Rattle.elf_model.specs.Inputs.Command.{IsBase, Plan, command_of};
 ghost use Rattle.elf_model.specs.Inputs.Files.{files_of, words_of};
 ghost use Rattle.elf_model.specs.Own.ImageFile.{IsOwnMap, own_end};
 ghost use Rattle.elf_model.specs.Link.Listing.{AreLinkerLines};
@@ -10,6 +10,7 @@ ghost use Rattle.elf_model.specs.Own.OwnAddresses.{AreOwnAddresses};
 ghost use Rattle.elf_model.specs.Own.OwnLayout.{IsNotTooLarge, own_where};
 ghost use Rattle.elf_model.specs.Link.Relocation.{AreLawfulRelocations};
 ghost use Rattle.elf_model.specs.Link.Slots as wanted;
+ghost use Rattle.opening.specs.Held.{AreSearched, held_files};
 ghost use Rattle.resolve.specs.Views.{meaning_view, meaning_views};
 ghost use Rattle.symbols.specs.Rows.{no_rows};
 ghost use Rattle.relocate.specs.Uses.{line_views};
@@ -26,6 +27,7 @@ use crate::listed_definitions::listed;
 use crate::own_map::map_of_layout;
 use crate::refusals::{command_error, layout_error, reloc_error, resolve_error, search_error};
 use crate::spelled_lines::show_spellings;
+use ar_index::PartFile;
 use command::read_words;
 use elf_model::{Bound, InputFile, LinkError, LinkMap, NameSeed};
 use got_tls::Slots;
@@ -33,7 +35,7 @@ use image_write::{Linkage, Listed, Parts, SymbolTable, definition_value, file_en
 use layout::{GotSize, Placement, kinds, place};
 use relocate::{Patches, linker_lines, patches, referred_slots, slot_values};
 use resolve::{Definition, Resolved, resolve_in};
-use search::{Loaded, load_seeded};
+use search::{Loaded, load_parts};
 use std::alloc::{AllocError, Global};
 use symbols::{IndexedTable, NameTable};
 
@@ -367,31 +369,34 @@ fn prepare_loaded<'a, T: NameTable<'a> + Drop>(
     prepare_placed(alloc, loaded, resolved, slots, &entry, placement)
 }
 
-/// As `prepare_seeded`, with a table of names for resolution.
+/// As `prepare_parts`, with a table of names for resolution.
 #[tactic(auto, using(crate::proofs::FinalRefusals::finals))]
 fn prepare_by<'a, T: NameTable<'a> + Drop>(
     alloc: Global,
+    parts: &'a [PartFile],
     files: &'a [InputFile],
     words: &'a [String],
     seed: NameSeed,
     resolution: T,
 ) -> Result<Linkage<'a>, LinkError>
-    requires { T.rows resolution ≡ no_rows }
-    ensures prepared { IfOk result (IsPrepared (files_of files.entry.now)
+    requires rows { T.rows resolution ≡ no_rows }
+    requires searched { (plan : Plan) → command_of (words_of words.now) ≡ Ok plan
+        → AreSearched parts.now plan }
+    ensures prepared { IfOk result (IsPrepared (held_files parts.entry.now files.entry.now)
         (words_of words.entry.now)) }
-    ensures own { IfOk result (AreOwnMapsRight (files_of files.entry.now)
+    ensures own { IfOk result (AreOwnMapsRight (held_files parts.entry.now files.entry.now)
         (words_of words.entry.now)) }
-    ensures right { IfOk result (HasOwnLink (files_of files.entry.now) (words_of words.entry.now)) }
+    ensures right { IfOk result (HasOwnLink (held_files parts.entry.now files.entry.now) (words_of words.entry.now)) }
     ensures addresses { IfOk result (λ l. AreOwnAddresses l.plan.base l.objects) }
-    ensures cause { IfErr result (Cause (files_of files.entry.now) (words_of words.entry.now)) }
-    ensures no_link { IfErr result (DeniesLinks (files_of files.entry.now)
+    ensures cause { IfErr result (Cause (held_files parts.entry.now files.entry.now) (words_of words.entry.now)) }
+    ensures no_link { IfErr result (DeniesLinks (held_files parts.entry.now files.entry.now)
         (words_of words.entry.now)) }
 {
     let plan = match read_words(alloc, words) {
         Ok(plan) => plan,
         Err(fault) => return Err(command_error(fault)),
     };
-    let loaded = match load_seeded(alloc, &plan, files, seed) {
+    let loaded = match load_parts(alloc, &plan, parts, files, seed) {
         Ok(loaded) => loaded,
         Err(fault) => return Err(search_error(fault)),
     };
@@ -399,6 +404,34 @@ fn prepare_by<'a, T: NameTable<'a> + Drop>(
         Ok(parts) => Ok(Linkage::new(loaded, parts)),
         Err(error) => Err(error),
     }
+}
+
+/// As `prepare`, where of archives that are searched the data of some members may not have been read, and names are found by hash
+/// from a seed: who picks the names can make them collide only where the seed is known. Zeros stand for data that weren't read. So
+/// a link is answered only where it takes none of these members, and it is then that of the files whatever these data are.
+pub fn prepare_parts<'a>(
+    alloc: Global,
+    parts: &'a [PartFile],
+    files: &'a [InputFile],
+    words: &'a [String],
+    seed: NameSeed,
+) -> Result<Linkage<'a>, LinkError>
+    requires { (plan : Plan) → command_of (words_of words.now) ≡ Ok plan
+        → AreSearched parts.now plan }
+    ensures prepared { IfOk result (IsPrepared (held_files parts.entry.now files.entry.now)
+        (words_of words.entry.now)) }
+    ensures own { IfOk result (AreOwnMapsRight (held_files parts.entry.now files.entry.now)
+        (words_of words.entry.now)) }
+    ensures right { IfOk result (HasOwnLink (held_files parts.entry.now files.entry.now)
+        (words_of words.entry.now)) }
+    ensures addresses { IfOk result (λ l. AreOwnAddresses l.plan.base l.objects) }
+    ensures cause { IfErr result (Cause (held_files parts.entry.now files.entry.now)
+        (words_of words.entry.now)) }
+    ensures no_link { IfErr result (DeniesLinks (held_files parts.entry.now files.entry.now)
+        (words_of words.entry.now)) }
+{
+    let resolution = IndexedTable::with_hasher(alloc, seed);
+    prepare_by(alloc, parts, files, words, seed, resolution)
 }
 
 /// As `prepare`, with two tables of names: one for loading, to which the numbers of names leave nothing to do, and one for
@@ -422,7 +455,7 @@ pub fn prepare_in<'a, T: NameTable<'a> + Drop>(
     ensures no_link { IfErr result (DeniesLinks (files_of files.entry.now)
         (words_of words.entry.now)) }
 {
-    prepare_by(alloc, files, words, NameSeed::fixed(), resolution)
+    prepare_by(alloc, &[], files, words, NameSeed::fixed(), resolution)
 }
 
 /// As `prepare`, where names are found by hash from a seed: who picks the names can make them collide only where the seed is
@@ -443,8 +476,7 @@ pub fn prepare_seeded<'a>(
     ensures no_link { IfErr result (DeniesLinks (files_of files.entry.now)
         (words_of words.entry.now)) }
 {
-    let resolution = IndexedTable::with_hasher(alloc, seed);
-    prepare_by(alloc, files, words, seed, resolution)
+    prepare_parts(alloc, &[], files, words, seed)
 }
 
 /// Prepares the link of the files that a command's words name.
