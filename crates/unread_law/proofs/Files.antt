@@ -30,7 +30,7 @@ named (f ∷ files) path = by (bytes_eq f.name path) refl (named files path)
         ∙ rest
         ∙ ap (λ (c : Bool). c || list_any (λ n. bytes_eq n path) (map (λ g. g.name) files)) (sym is)
 
-file_same : (files others : List File) → map (λ f. f.name) files ≡ map (λ f. f.name) others → (path : List ℕ) → is_file files path ≡ is_file others path
+pub file_same : (files others : List File) → map (λ f. f.name) files ≡ map (λ f. f.name) others → (path : List ℕ) → is_file files path ≡ is_file others path
 file_same files others names path = named files path ∙ ap (λ ns. list_any (λ n. bytes_eq n path) ns) names ∙ sym (named others path)
 
 has_file : (files others : List File) (directories : List (List ℕ)) (item : Item) → map (λ f. f.name) files ≡ map (λ f. f.name) others → HasFile files directories item → HasFile others directories item

@@ -42,7 +42,7 @@ module _ (plan : Plan) (o q : Opened) (alike : AreAlike o q) (but : IsSameBut o 
       let e = s.0 in
       let rest = searched_extends n plan o (with_member from o e) to s.2 in
       let x = object_behind from o e.offset (archive_data o.bytes e.offset) in
-      let content = last_of (HasSameData o q) from rest.0 x (subst (All (HasSameData o q)) rest.1 all) refl in (
+      let content = last_of (HasSameData o q) from rest.0 x (subst (All (HasSameData o q)) rest.1 all) refl refl in (
         e,
         sym (next_same from) ∙ s.1,
         subst (λ (l : List LoadedObject). SearchedBy n plan q l to) (with_same from e content) (searched_on n (with_member from o e) to all s.2),

@@ -114,7 +114,7 @@ module _ (plan : Plan) (files others : List File) (image : List ℕ) (m : MapRec
   holds_on C14 h = record { asked = h.asked; held = held_on m.symtab h.held; none = h.none }
 
 -- the plan of a command
-same_plan : (words : List (List ℕ)) (p q : Plan) → command_of words ≡ Ok p → command_of words ≡ Ok q → p ≡ q
+pub same_plan : (words : List (List ℕ)) (p q : Plan) → command_of words ≡ Ok p → command_of words ≡ Ok q → p ≡ q
 same_plan words p q one other = cc (sym one ∙ other)
 
 pub right_links_too :

@@ -1,1 +1,2 @@
+pub mod PartFiles
 pub mod Unread

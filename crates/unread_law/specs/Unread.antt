@@ -39,7 +39,8 @@ pub record AreAlike (o q : Opened) : Type 0 where
 
 -- the data of the member from which an object is, where it is one of the item's, are the same in both
 abbrev pub HasSameData : Opened → Opened → LoadedObject → Type 0
-HasSameData o q x = x.item ≡ o.number → archive_data o.bytes x.offset ≡ archive_data q.bytes x.offset
+HasSameData o q x =
+    x.item ≡ o.number → x.bytes ≡ archive_data o.bytes x.offset → archive_data o.bytes x.offset ≡ archive_data q.bytes x.offset
 
 -- two sets of files agree where a plan's loading from the first looks
 abbrev pub AgreesOn : List LoadedObject → Opened → Opened → Type 0
