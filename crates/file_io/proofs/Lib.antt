@@ -1,1 +1,3 @@
 pub mod Gatherings
+mod PartFills
+mod PartReads

@@ -1,2 +1,3 @@
 pub mod FileIds
+pub mod Placed
 pub mod Sources

@@ -7,6 +7,7 @@
 mod file_ids;
 mod file_sink;
 mod file_source;
+mod placed_bytes;
 mod real_files;
 mod sparse;
 mod zero_pages;
@@ -14,5 +15,6 @@ mod zero_pages;
 pub use file_ids::{FileId, OutputPath, file_id, overwritten};
 pub use file_sink::{FileSink, put_zeros};
 pub use file_source::{FetchFault, FileSource, GatherFault, gather};
-pub use real_files::{RealFiles, make_executable, read_whole};
+pub use placed_bytes::{PlacedBytes, PlacedFile, read_members, read_parts};
+pub use real_files::{LargeArchive, RealFiles, make_executable, read_whole};
 pub use sparse::{SparseFile, SparseWrite};

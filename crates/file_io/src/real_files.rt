@@ -7,10 +7,12 @@ ghost use Rattle.file_io.specs.Sources.{FetchFails};
 
 use crate::file_ids::{FileId, OutputPath, file_id, overwritten};
 use crate::file_source::{FetchFault, FileSource};
+use crate::placed_bytes::{PlacedFile, read_parts};
+use ar_index::PartFile;
 use std::alloc::Global;
 use std::fs::{File, OpenFile, Permissions};
 use std::io;
-use std::io::{ErrorKind, Read};
+use std::io::{ErrorKind, Read, Seek};
 use std::os::unix::fs::PermissionsExt;
 use std::rt::Files;
 
@@ -32,15 +34,20 @@ fn opened<R: Files>(rt: &R, path: &str) -> io::Result<Option<R::File>> {
     }
 }
 
+/// How many bytes a file has, and which file it is, where the system tells that.
+fn length_and_id<F: OpenFile>(file: &F) -> (u64, Option<FileId>) {
+    match file.metadata() {
+        Ok(metadata) => (metadata.len(), file_id(&metadata)),
+        Err(_) => (0, None),
+    }
+}
+
 /// The bytes of a file, and which file it is, where the system tells that.
 fn read_opened<R: Files + AllocGlobal>(
     rt: &R,
     file: &mut R::File,
 ) -> io::Result<(Vec<u8>, Option<FileId>)> {
-    let (len, id) = match file.metadata() {
-        Ok(metadata) => (metadata.len(), file_id(&metadata)),
-        Err(_) => (0, None),
-    };
+    let (len, id) = length_and_id(file);
     let bytes = contents(rt.alloc(), file, len)?;
     Ok((bytes, id))
 }
@@ -69,6 +76,16 @@ pub fn read_whole<R: Files + AllocGlobal>(rt: &R, path: &str) -> io::Result<Opti
     }
 }
 
+/// From how many bytes on an archive is read in part.
+const LARGE: u64 = 8 << 20;
+
+/// An archive that was read in part, and the file from which more of it is read.
+#[derive(Drop)]
+pub struct LargeArchive<F: Read + Seek + Drop> {
+    pub parts: PartFile,
+    pub file: PlacedFile<F>,
+}
+
 /// The files of the system as a source of input, some of whose paths are to be written later. It
 /// doesn't tell them.
 #[derive(Drop)]
@@ -77,6 +94,8 @@ pub struct RealFiles<'r, 'a, R: Files + AllocGlobal> {
     outputs: &'r [OutputPath<'a>],
     overwritten: Option<&'a str>,
     failures: u64,
+    /// The large archives, where they are read in part.
+    large: Option<Vec<LargeArchive<R::File>>>,
 }
 
 impl<'r, 'a, R: Files + AllocGlobal> RealFiles<'r, 'a, R> {
@@ -89,6 +108,29 @@ impl<'r, 'a, R: Files + AllocGlobal> RealFiles<'r, 'a, R> {
             outputs,
             overwritten: None,
             failures: 0,
+            large: None,
+        }
+    }
+
+    /// The same, where archives from 8 MB on whose paths end in `.a` are read in part. For these no bytes are answered, as if there
+    /// were no such files: `into_large` has them.
+    pub fn in_part(rt: &'r R, outputs: &'r [OutputPath<'a>]) -> RealFiles<'r, 'a, R>
+        ensures { result.failures ≡ 0 }
+    {
+        RealFiles {
+            rt,
+            outputs,
+            overwritten: None,
+            failures: 0,
+            large: Some(Vec::new(rt.alloc())),
+        }
+    }
+
+    /// The large archives that were read in part.
+    pub fn into_large(self) -> Vec<LargeArchive<R::File>> {
+        match self.large {
+            Some(large) => large,
+            None => Vec::new(self.rt.alloc()),
         }
     }
 
@@ -111,6 +153,47 @@ impl<'r, 'a, R: Files + AllocGlobal> RealFiles<'r, 'a, R> {
         self.overwritten = self.overwritten.or(told);
     }
 
+    /// Reads a large archive in part, and keeps it; hands the file back where that can't be.
+    fn keep_large(&mut self, path: &str, len: u64, file: R::File) -> io::Result<Option<R::File>>
+        ensures failures { self.new.failures ≡ self.old.failures }
+        ensures overwritten { self.new.overwritten ≡ self.old.overwritten }
+    {
+        let alloc = self.rt.alloc();
+        let Some(large) = &mut self.large else {
+            return Ok(Some(file));
+        };
+        let name = String::from_str(alloc, path)?;
+        let mut file = PlacedFile::new(file);
+        match read_parts(alloc, &mut file, name, len as usize) {
+            Ok(Some(parts)) => {
+                large.push(LargeArchive { parts, file })?;
+                Ok(None)
+            }
+            _ => Ok(Some(file.into_file()?)),
+        }
+    }
+
+    /// The bytes of the file at a path; None where there is no such file, or where it is kept in part.
+    fn read(&mut self, path: &str) -> io::Result<Option<Vec<u8>>>
+        ensures failures { self.new.failures ≡ self.old.failures }
+        ensures noted { (p : Bor (List ℕ)) → self.old.overwritten ≡ Some p
+            → self.new.overwritten ≡ Some p }
+    {
+        let Some(file) = opened(self.rt, path)? else {
+            return Ok(None);
+        };
+        let (len, id) = length_and_id(&file);
+        self.note(path, id);
+        let mut file = file;
+        if len >= LARGE && path.ends_with(".a") {
+            match self.keep_large(path, len, file)? {
+                Some(whole) => file = whole,
+                None => return Ok(None),
+            }
+        }
+        Ok(Some(contents(self.rt.alloc(), &mut file, len)?))
+    }
+
     /// As `fetch`; what was noted before stays.
     fn fetched(&mut self, path: &str) -> Result<Option<Vec<u8>>, FetchFault>
         requires { self.old.failures ≡ 0 }
@@ -119,12 +202,8 @@ impl<'r, 'a, R: Files + AllocGlobal> RealFiles<'r, 'a, R> {
         ensures noted { (p : Bor (List ℕ)) → self.old.overwritten ≡ Some p
             → self.new.overwritten ≡ Some p }
     {
-        match read_with_id(self.rt, path) {
-            Ok(Some((bytes, id))) => {
-                self.note(path, id);
-                Ok(Some(bytes))
-            }
-            Ok(None) => Ok(None),
+        match self.read(path) {
+            Ok(bytes) => Ok(bytes),
             Err(error) => match error.kind() {
                 ErrorKind::OutOfMemory => Err(FetchFault::Memory),
                 _ => {
