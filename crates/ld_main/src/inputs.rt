@@ -37,7 +37,7 @@ pub fn outputs<'a, R: Files>(rt: &R, plan: &Plan<'a>) -> Outputs<'a>
 }
 
 /// Files that were read; refused where one of them is at a path that will be written.
-fn apart<'a>(
+pub fn unless_overwritten<'a>(
     overwritten: Option<&'a str>,
     files: Vec<InputFile>,
 ) -> Result<Vec<InputFile>, Failure<'a>>
@@ -62,7 +62,7 @@ fn read_apart<'a, R: Files + AllocGlobal>(
 {
     let mut source = RealFiles::new(rt, written);
     let files = gather(rt.alloc(), plan, &mut source)?;
-    apart(source.overwritten(), files)
+    unless_overwritten(source.overwritten(), files)
 }
 
 /// Reads the files that a plan names.

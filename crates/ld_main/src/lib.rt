@@ -7,6 +7,7 @@
 mod command_line;
 mod content;
 mod failure;
+mod held_files;
 mod inputs;
 mod new_file;
 mod outcome;

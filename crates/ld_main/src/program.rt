@@ -1,23 +1,28 @@
 //! The program: reads the files that the words name, links or checks them, writes or prints the answer.
-ghost use Rattle.std.specs.Prelude.{◌≡◌, ◌≢◌, ◌⊎◌, ◌≤◌, List, true, false, None, Ok, IfErr, IfOk, IsErr, IsErrAnd, IsOk, OnOk};
+ghost use Rattle.std.specs.Prelude.{◌≡◌, ◌≢◌, ◌⊎◌, ◌≤◌, List, true, false, None, Ok, IfErr, IfOk, IfSome, IsErr, IsErrAnd, IsOk, OnOk};
 ghost use Rattle.elf_model.specs.Own.Causes.{Cause};
 ghost use Rattle.elf_model.specs.Inputs.Command as command;
 ghost use Rattle.elf_model.specs.Inputs.Command.{command_of};
 ghost use Rattle.elf_model.specs.Inputs.Files.{File, files_of, words_of};
+ghost use Rattle.opening.specs.Held.{AreSearched, held_files};
+ghost use Rattle.unread_law.specs.PartFiles.{AreFilesOf};
 ghost use Rattle.linker.specs.Linkages.{HasOwnLink};
 ghost use Rattle.ld_main.specs.Program.{Asks, HasRightLink, IsUnread, Judges, JudgesSome, LinksRight, Prints, TellsFailure, failure_status, is_checked, outcome_status};
 ghost use Rattle.ld_main.specs.Tasks.{IsTaskBy, IsTaskOf, is_check};
 
 use crate::content::{ImageOf, MapOf};
 use crate::failure::{Failure, refused};
+use crate::held_files::{HeldFiles, read_all_files, read_held_files};
 use crate::inputs::{outputs, read_file, read_files, read_other_files};
 use crate::outcome::Outcome;
 use crate::writing::{Outputs, write_outputs};
+use ar_index::PartFile;
 use checker::check_in;
 use command::{Plan, read_words};
 use elf_model::{InputFile, LinkError, NameSeed, Verdict};
 use image_write::Linkage;
-use linker::prepare_seeded;
+use linker::{prepare_parts, prepare_seeded};
+use opening::are_searched;
 use std::alloc::{AllocError, Global};
 use std::hash::RandomState;
 use std::io;
@@ -161,6 +166,132 @@ pub fn read_input<'a, R: Files + AllocGlobal>(
     Ok((task, files))
 }
 
+/// Links files of which archives that are searched were read in part, and writes what comes of it; None where the link is refused,
+/// perhaps for what wasn't read. What is written is right of all files of which these were read.
+fn link_parts<'a, R: Files + AllocGlobal + RandomSource>(
+    rt: &R,
+    outputs: &Outputs<'a>,
+    parts: &[PartFile],
+    files: &[InputFile],
+    words: &[String],
+    seed: NameSeed,
+) -> Result<Option<Outcome>, Failure<'a>>
+    requires { (plan : command.Plan) → command_of (words_of words.now) ≡ Ok plan
+        → AreSearched parts.now plan }
+    ensures right { IfOk result (λ r. IfSome r (λ o. outcome_status o ≡ 0
+        → LinksRight (held_files parts.now files.now) (words_of words.now))) }
+    ensures all { IfOk result (λ r. IfSome r (λ o. outcome_status o ≡ 0
+        → (whole : List File) → AreFilesOf (record {
+          parts = parts.now;
+          wholes = files_of files.now;
+        }) whole → LinksRight whole (words_of words.now))) }
+    ensures fault { IfErr result (λ f. 3 ≤ failure_status f) }
+    ensures linked { IfOk result (λ r. IfSome r (λ o. is_checked o ≡ false)) }
+{
+    let linkage = match prepare_parts(rt.alloc(), parts, files, words, seed) {
+        Ok(linkage) => linkage,
+        Err(_) => return Ok(None),
+    };
+    let linkage = &linkage;
+    write_outputs(rt, outputs, ImageOf { linkage }, MapOf { linkage })?;
+    Ok(Some(Outcome::Linked))
+}
+
+/// Reads the members of large archives that a link takes, and links, where no others are needed; None where all files are to be read
+/// whole.
+fn link_in_part<'a, R: Files + AllocGlobal + RandomSource>(
+    rt: &R,
+    outputs: &Outputs<'a>,
+    files: HeldFiles<R::File>,
+    words: &[String],
+) -> Result<Option<Outcome>, Failure<'a>>
+    ensures right { IfOk result (λ r. IfSome r (λ o. outcome_status o ≡ 0
+        → HasRightLink (words_of words.now))) }
+    ensures words_alone { IfErr result (λ f. failure_status f ≡ 2
+        → IsErr (command_of (words_of words.now))) }
+    ensures linked { IfOk result (λ r. IfSome r (λ o. is_checked o ≡ false)) }
+{
+    let plan = read_words(rt.alloc(), words)?;
+    let mut files = files;
+    let seed = name_seed(rt);
+    files.read_wanted(rt.alloc(), &plan, seed)?;
+    if !are_searched(&plan, &files.parts) {
+        return Ok(None);
+    }
+    link_parts(rt, outputs, &files.parts, &files.files, words, seed)
+}
+
+/// Reads the files that words name, of which the outputs may be none.
+fn read_whole_files<'a, R: Files + AllocGlobal>(
+    rt: &R,
+    outputs: &Outputs<'a>,
+    words: &[String],
+) -> Result<Vec<InputFile>, Failure<'a>>
+    ensures { IfErr result (λ f. failure_status f ≡ 2 → IsErr (command_of (words_of words.now))) }
+{
+    let plan = read_words(rt.alloc(), words)?;
+    let files = read_other_files(rt, &plan, outputs)?;
+    Ok(files)
+}
+
+/// Links files: without members of large archives that the link doesn't take, where that can be.
+fn link_held<'a, R: Files + AllocGlobal + RandomSource>(
+    rt: &R,
+    outputs: &Outputs<'a>,
+    files: HeldFiles<R::File>,
+    words: &[String],
+) -> Result<Outcome, Failure<'a>>
+    ensures right { IfOk result (λ o. outcome_status o ≡ 0 → HasRightLink (words_of words.now)) }
+    ensures words_alone { IfErr result (λ f. failure_status f ≡ 2
+        → IsErr (command_of (words_of words.now))) }
+    ensures linked { IfOk result (λ o. is_checked o ≡ false) }
+{
+    if files.parts.is_empty() {
+        return link_files(rt, outputs, &files.files, words);
+    }
+    if let Some(outcome) = link_in_part(rt, outputs, files, words)? {
+        return Ok(outcome);
+    }
+    let files = read_whole_files(rt, outputs, words)?;
+    link_files(rt, outputs, &files, words)
+}
+
+/// Reads the files that a plan names: where they are linked, the outputs are none of them, and of large archives only what a link
+/// looks at is read.
+fn read_held_plan<'a, R: Files + AllocGlobal>(
+    rt: &R,
+    plan: &Plan<'_>,
+    task: &Task<'a>,
+) -> Result<HeldFiles<R::File>, Failure<'a>>
+    ensures { IfErr result (λ f. 3 ≤ failure_status f) }
+{
+    match task {
+        Task::Link(outputs) => read_held_files(rt, plan, outputs),
+        Task::Check(_, _) => read_all_files(rt, plan),
+    }
+}
+
+/// Reads the words, and the files that they name, as `read_input` does, and of large archives that are linked only what a link looks
+/// at.
+fn read_held_input<'a, R: Files + AllocGlobal>(
+    rt: &R,
+    words: &'a [String],
+) -> Result<(Task<'a>, HeldFiles<R::File>), Failure<'a>>
+    ensures task { IfOk result (λ g. IsTaskBy (words_of words.entry.now) g.0) }
+    ensures mode { IfOk result (λ g. Asks (is_check g.0) (words_of words.entry.now)) }
+    ensures command { OnOk result (IsOk (command_of (words_of words.entry.now))) }
+    ensures fault { IfErr result (λ f. 2 ≤ failure_status f) }
+    ensures refused_words { IsErr (command_of (words_of words.entry.now)) →
+        IsErrAnd result (λ f. (failure_status f ≡ 2) ⊎ (failure_status f ≡ 4)) }
+    ensures words_alone { IfErr result (λ f. failure_status f ≡ 2
+        → IsErr (command_of (words_of words.entry.now))) }
+{
+    let plan = read_words(rt.alloc(), words)?;
+    let task = task_of(rt, &plan);
+    let files = read_held_plan(rt, &plan, &task)?;
+    Ok((task, files))
+}
+
 fn run<'a, R: Files + AllocGlobal + RandomSource>(
     rt: &R,
     words: &'a [String],
@@ -178,10 +309,10 @@ fn run<'a, R: Files + AllocGlobal + RandomSource>(
         command_of (words_of words.entry.now) ≡ Ok p → p.check ≡ true
         → IfErr result (λ f. 2 ≤ failure_status f) }
 {
-    let (task, files) = read_input(rt, words)?;
+    let (task, files) = read_held_input(rt, words)?;
     match task {
-        Task::Link(outputs) => link_files(rt, &outputs, &files, words),
-        Task::Check(image, map) => check_files(rt, image, map, &files, words),
+        Task::Link(outputs) => link_held(rt, &outputs, files, words),
+        Task::Check(image, map) => check_files(rt, image, map, &files.files, words),
     }
 }
 

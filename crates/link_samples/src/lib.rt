@@ -2,7 +2,7 @@
 //! what the tests of links need.
 #![tactic(auto)]
 
-mod archives;
+pub mod archives;
 pub mod links;
 pub mod objects;
 pub mod one_object;

@@ -3,6 +3,7 @@ mod debug_runs;
 mod drawn;
 mod explanations;
 mod files;
+mod large_archives;
 mod large_images;
 mod machine;
 mod outputs;

@@ -180,6 +180,12 @@ impl<'a> Disk<'a> {
         Ok(journal.push_str(&line)?)
     }
 
+    /// Notes the place in a file from which on it is read.
+    fn note_place(&self, place: u64) -> io::Result<()> {
+        let place = format!(in self.alloc; "{place}")?;
+        self.note("at", &place)
+    }
+
     /// Notes a deed that no run may do, and says why it fails.
     fn refusal(&self, deed: &str, path: &str) -> io::Error {
         match self.note(deed, path) {
@@ -405,19 +411,23 @@ impl Write for OpenedFile<'_> {
 
 impl Seek for OpenedFile<'_> {
     fn seek(&mut self, to: SeekFrom) -> io::Result<u64> {
-        let Handle::Made(number, place, kind) = self.handle else {
-            return self.disk.refuse("seek", "");
-        };
-        let SeekFrom::Current(count) = to else {
-            return self.disk.refuse("seek", "");
-        };
-        let Ok(count) = u64::try_from(count) else {
-            return self.disk.refuse("seek", "");
-        };
-        self.disk.pass(count)?;
-        let place = place.saturating_add(count as usize);
-        self.handle = Handle::Made(number, place, kind);
-        Ok(place as u64)
+        match (self.handle, to) {
+            (Handle::Made(number, place, kind), SeekFrom::Current(count)) => {
+                let Ok(count) = u64::try_from(count) else {
+                    return self.disk.refuse("seek", "");
+                };
+                self.disk.pass(count)?;
+                let place = place.saturating_add(count as usize);
+                self.handle = Handle::Made(number, place, kind);
+                Ok(place as u64)
+            }
+            (Handle::Read(file, _), SeekFrom::Start(place)) => {
+                self.disk.note_place(place)?;
+                self.handle = Handle::Read(file, place as usize);
+                Ok(place)
+            }
+            _ => self.disk.refuse("seek", ""),
+        }
     }
 }
 

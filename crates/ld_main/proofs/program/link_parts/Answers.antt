@@ -1,0 +1,27 @@
+use Rattle.std.proofs.Common.{◌≤◌, subst, sym}
+use Rattle.std.specs.Prelude.{IfErr, Option, Result}
+use Rattle.std.proofs.lemmas.Result.{err_from_is_err_and}
+use Rattle.ld_main.specs.Program.{failure_status}
+use Rattle.ld_main.specs.declared.failure.Failure.{Failure}
+use Rattle.ld_main.specs.declared.outcome.Outcome.{Outcome}
+use Rattle.elf_model.specs.Inputs.Files.{files_of, words_of}
+use Rattle.image_write.specs.Linkages.{own_image}
+use Rattle.unread_law.proofs.PartLinks.{right_of_all}
+use Rattle.ld_main.proofs.program.link_parts.Goals as goal
+
+pub returns-clause-all : goal.returns-clause-all
+returns-clause-all g c low whole of =
+    let own = c.in-Ok.ensures.right in
+    let right = own.right in
+    (
+      own_image c.in-Ok.linkage,
+      own.text,
+      right_of_all (record { parts = c.args.parts.now; wholes = files_of c.args.files.now }) whole (words_of c.args.words.now) (own_image c.in-Ok.linkage) own.text
+      right.plan right.read.plan (c.requires right.plan right.read.plan) of right,
+    )
+
+pub returns-in_err-write_outputs-clause-fault : goal.returns-in_err-write_outputs-clause-fault
+returns-in_err-write_outputs-clause-fault g c =
+    let is = err_from_is_err_and c.from_residual.result c.from_residual.ensures.1 in
+    subst (λ (s : Result (Option Outcome) Failure). IfErr s (λ e. 3 ≤ failure_status e)) (sym is.1)
+    (subst (λ (e : Failure). 3 ≤ failure_status e) (sym is.2) c.in_err-write_outputs.ensures.least)
