@@ -12,12 +12,11 @@ use Rattle.ld_main.proofs.program.link_parts.Goals as goal
 pub returns-clause-all : goal.returns-clause-all
 returns-clause-all g c low whole of =
     let own = c.in-Ok.ensures.right in
-    let right = own.right in
-    (
+    let right = own.right in (
       own_image c.in-Ok.linkage,
       own.text,
       right_of_all (record { parts = c.args.parts.now; wholes = files_of c.args.files.now }) whole (words_of c.args.words.now) (own_image c.in-Ok.linkage) own.text
-      right.plan right.read.plan (c.requires right.plan right.read.plan) of right,
+          right.plan right.read.plan (c.requires right.plan right.read.plan) of right,
     )
 
 pub returns-in_err-write_outputs-clause-fault : goal.returns-in_err-write_outputs-clause-fault
