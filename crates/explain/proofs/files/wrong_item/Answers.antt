@@ -5,6 +5,7 @@ use Rattle.command.specs.Views.{item_of, texts_of}
 use Rattle.elf_model.specs.Inputs.Command.{Item, Plan}
 use Rattle.elf_model.specs.Inputs.Files.{File}
 use Rattle.elf_model.specs.Inputs.Opening.{opened_from, opened_item}
+use Rattle.opening.specs.Held.{all_files}
 use Rattle.opening.proofs.OpenedLaws.{opened_is}
 use Rattle.explain.proofs.files.wrong_item.Goals as goal
 
@@ -21,10 +22,10 @@ opened_at files directories k (suc i) n (x ∷ xs) item there is =
 
 pub returns : goal.returns
 returns c =
-    let files = c.args.files.now in
+    let files = all_files c.args.files.now in
     let plan = c.args.plan.now in
     let i = c.args.i in
     let directories = ap texts_of c.deref.ensures.value ∙ ap (λ (p : Plan). p.directories) c.plan.view_is in
-    let found = rw (c.in-Some-2.is, directories) at c.in_ok-path.ensures in
+    let found = rw (c.in-Some-2.is, directories) at c.in_ok-path.ensures.found in
     let is = opened_is files plan.directories i (item_of c.in-Some.item.now) _ found in
     c.bad_archive.ensures files plan (opened_at files plan.directories 0 i i plan.items _ c.in-Some.ensures (omega arith) ∙ ap Some is.0)
