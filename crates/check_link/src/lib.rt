@@ -38,7 +38,7 @@ pub use linker_names::{fixed_bound, named_output, output_bound};
 pub use names::Names;
 pub use numbering::Numbering;
 pub use output_names::Outputs;
-pub use output_sections::{OutputSection, output_section, same_section};
+pub use output_sections::{OutputSection, is_gathered_by, output_section, same_section};
 pub use pieces::pieces_of;
 pub use placed_pieces::{
     first_address, got_thing, got_things_of, place_all, range_of_placed, thing_of_placed,

@@ -18,7 +18,7 @@ pub struct OutputSection<'a> {
 }
 
 /// Whether a name is a gathering one, or begins with it and a dot.
-fn is_gathered_by(name: &[u8], gathering: &[u8]) -> bool
+pub fn is_gathered_by(name: &[u8], gathering: &[u8]) -> bool
     ensures { result ≡ pieces.is_gathered_by name.now gathering.now }
 {
     if name.len() <= gathering.len() {

@@ -8,6 +8,7 @@ ghost use Rattle.check_load.specs.Numbered.{AreNumbered};
 ghost use Rattle.check_load.specs.Places.{IsAt};
 ghost use Rattle.check_load.specs.Plans.{CanLoad};
 ghost use Rattle.check_load.specs.Rounds.{AreSideBySide};
+ghost use Rattle.opening.specs.Held.{AreSearched, held_files};
 ghost use Rattle.opening.specs.Steps.{in_group};
 ghost use Rattle.check_load.specs.Stops.{Refutes};
 ghost use Rattle.check_load.specs.Views.{loaded_views};
@@ -18,9 +19,10 @@ use crate::places::Places;
 use crate::rounds::run_rounds;
 use crate::stops::Stop;
 use crate::turns::turn;
+use ar_index::PartFile;
 use command::Plan;
 use elf_model::{InputFile, NameSeed};
-use opening::{Input, inputs_of};
+use opening::{Input, inputs_of_parts};
 use std::alloc::{AllocError, Global};
 
 /// The number of an archive's group; None of one that is in none, and of an object.
@@ -178,16 +180,18 @@ fn load_all<'a>(
 fn load<'a>(
     alloc: Global,
     plan: &Plan<'a>,
+    parts: &'a [PartFile],
     files: &'a [InputFile],
     seed: Option<NameSeed>,
 ) -> Result<NamedObjects<'a>, Stop>
+    requires { AreSearched parts.now plan.now }
     ensures loaded { IfOk result (λ v. loaded_views v.objects.items
-        ≡ loaded_objects (files_of files.entry.now) plan.now) }
+        ≡ loaded_objects (held_files parts.entry.now files.entry.now) plan.now) }
     ensures numbered { IfOk result (λ v. AreNumbered v.names v.objects.items) }
-    ensures good { OnOk result (CanLoad (files_of files.entry.now) plan.now) }
-    ensures stop { IfErr result (Refutes (CanLoad (files_of files.entry.now) plan.now)) }
+    ensures good { OnOk result (CanLoad (held_files parts.entry.now files.entry.now) plan.now) }
+    ensures stop { IfErr result (Refutes (CanLoad (held_files parts.entry.now files.entry.now) plan.now)) }
 {
-    let inputs = inputs_of(alloc, plan, files)?;
+    let inputs = inputs_of_parts(alloc, plan, parts, files)?;
     load_all(alloc, plan, &inputs, seed)
 }
 
@@ -216,13 +220,14 @@ pub fn open<'a>(
         IfSome o (λ v. loaded_views v.items ≡ loaded_objects (files_of files.entry.now) plan.now)) }
     ensures some { IfOk result (λ o. IsSome o ↔ CanLoad (files_of files.entry.now) plan.now) }
 {
-    match open_named(alloc, plan, files, seed)? {
+    match open_named(alloc, plan, &[], files, seed)? {
         Some(named) => Ok(Some(named.objects)),
         None => Ok(None),
     }
 }
 
-/// The loaded objects as `open` tells them, and the names of their symbols with their numbers.
+/// The loaded objects as `open` tells them, and the names of their symbols with their numbers. Of archives that are searched the data
+/// of some members may not have been read: zeros stand for them.
 ///
 /// # Errors
 ///
@@ -230,16 +235,18 @@ pub fn open<'a>(
 pub fn open_named<'a>(
     alloc: Global,
     plan: &Plan<'a>,
+    parts: &'a [PartFile],
     files: &'a [InputFile],
     seed: Option<NameSeed>,
 ) -> Result<Option<NamedObjects<'a>>, AllocError>
+    requires { AreSearched parts.now plan.now }
     ensures loaded { IfOk result (λ o.
         IfSome o (λ v. loaded_views v.objects.items
-        ≡ loaded_objects (files_of files.entry.now) plan.now)) }
+        ≡ loaded_objects (held_files parts.entry.now files.entry.now) plan.now)) }
     ensures numbered { IfOk result (λ o. IfSome o (λ v. AreNumbered v.names v.objects.items)) }
-    ensures some { IfOk result (λ o. IsSome o ↔ CanLoad (files_of files.entry.now) plan.now) }
+    ensures some { IfOk result (λ o. IsSome o ↔ CanLoad (held_files parts.entry.now files.entry.now) plan.now) }
 {
-    match load(alloc, plan, files, seed) {
+    match load(alloc, plan, parts, files, seed) {
         Ok(named) => Ok(Some(named)),
         Err(Stop::Memory) => Err(AllocError),
         Err(Stop::Unlawful) => Ok(None),

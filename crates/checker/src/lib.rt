@@ -18,4 +18,4 @@ mod verdict;
 pub use check_stages::{BoundLink, LoadedLink, PlacedLink};
 pub use elf_model::{Clause, Verdict};
 pub use observer::{Observer, Unobserved};
-pub use verdict::{check, check_in, judge};
+pub use verdict::{check, check_in, check_parts, judge};

@@ -1,14 +1,17 @@
 //! The whole check, from the top: the clauses in their order, each judged where all before it hold.
-ghost use Rattle.std.specs.Prelude.{◌≡◌, ◌↔◌, IfNone, IfOk, IfSome, OnOk};
+ghost use Rattle.std.specs.Prelude.{◌≡◌, ◌↔◌, IfNone, IfOk, IfSome, Ok, OnOk};
+ghost use Rattle.elf_model.specs.Inputs.Command.{Plan, command_of};
 ghost use Rattle.elf_model.specs.Inputs.Files.{files_of, words_of};
 ghost use Rattle.elf_model.specs.Image.RightLink.{Holds, HoldsBefore, IsRightLink, Least};
 ghost use Rattle.elf_model.specs.declared.verdict.Clause.{Clause};
 ghost use Rattle.elf_model.specs.declared.verdict.Clause.TheVariants as clause;
+ghost use Rattle.opening.specs.Held.{AreSearched, held_files};
 ghost use Rattle.checker.specs.Judged.{Judges};
 
 use crate::object_fields::are_held;
 use crate::observer::{Observer, Unobserved};
 use crate::{c02_loaded, c07_got, c08_thread_block, c09_relocations, c11_fill};
+use ar_index::PartFile;
 use check_link::{Link, Outputs, Places, SlotTable, base_of, read_map, read_plan};
 use check_load::{NamedObjects, open_named};
 use check_places::{c03_sections, c04_image, c05_placed, c06_rights, c12_entry};
@@ -29,20 +32,23 @@ fn judge_alone(
     judge(alloc, link, seed, &mut Unobserved)
 }
 
-/// Decides as `check`, where names are hashed from a seed, or found by their order without one.
+/// Decides as `check_parts`, where names are hashed from a seed, or found by their order without one.
 fn check_by(
     alloc: Global,
+    parts: &[PartFile],
     files: &[InputFile],
     words: &[String],
     image: &[u8],
     map: &[u8],
     seed: Option<NameSeed>,
 ) -> Result<Verdict, AllocError>
+    requires { (plan : Plan) → command_of (words_of words.now) ≡ Ok plan
+        → AreSearched parts.now plan }
     ensures yes { IfOk result (λ v. (v ≡ Verdict.Yes)
-        ↔ IsRightLink (files_of files.now) (words_of words.now) image.now map.now) }
+        ↔ IsRightLink (held_files parts.now files.now) (words_of words.now) image.now map.now) }
     ensures no { IfOk result (λ v. (c : Clause) →
         ((v ≡ Verdict.No c)
-        ↔ Least c (files_of files.now) (words_of words.now) image.now map.now)) }
+        ↔ Least c (held_files parts.now files.now) (words_of words.now) image.now map.now)) }
 {
     let Some(plan) = read_plan(alloc, words)? else {
         return Ok(Verdict::No(Clause::C1));
@@ -52,6 +58,7 @@ fn check_by(
     };
     let link = Link {
         plan,
+        parts,
         files,
         image,
         map,
@@ -78,7 +85,34 @@ pub fn check(
         ((v ≡ Verdict.No c)
         ↔ Least c (files_of files.now) (words_of words.now) image.now map.now)) }
 {
-    check_by(alloc, files, words, image, map, None)
+    check_by(alloc, &[], files, words, image, map, None)
+}
+
+/// Decides as `check_in`, where of archives that are searched the data of some members may not have been read. Zeros stand for
+/// these. So a link of which this says yes takes none of these members, and is right whatever their data are; one of which it says
+/// no may be right by their data.
+///
+/// # Errors
+///
+/// Only where memory is refused.
+pub fn check_parts(
+    alloc: Global,
+    parts: &[PartFile],
+    files: &[InputFile],
+    words: &[String],
+    image: &[u8],
+    map: &[u8],
+    seed: NameSeed,
+) -> Result<Verdict, AllocError>
+    requires { (plan : Plan) → command_of (words_of words.now) ≡ Ok plan
+        → AreSearched parts.now plan }
+    ensures yes { IfOk result (λ v. (v ≡ Verdict.Yes)
+        ↔ IsRightLink (held_files parts.now files.now) (words_of words.now) image.now map.now) }
+    ensures no { IfOk result (λ v. (c : Clause) →
+        ((v ≡ Verdict.No c)
+        ↔ Least c (held_files parts.now files.now) (words_of words.now) image.now map.now)) }
+{
+    check_by(alloc, parts, files, words, image, map, Some(seed))
 }
 
 /// Decides as `check`, and is quicker where there are many names: they are hashed from a seed, which whoever picks them
@@ -101,7 +135,7 @@ pub fn check_in(
         ((v ≡ Verdict.No c)
         ↔ Least c (files_of files.now) (words_of words.now) image.now map.now)) }
 {
-    check_by(alloc, files, words, image, map, Some(seed))
+    check_parts(alloc, &[], files, words, image, map, seed)
 }
 
 /// The answer for a clause that fails, where all before it hold.
@@ -128,7 +162,7 @@ pub fn judge<'a, O: Observer<'a>>(
     ensures verdict { IfOk result (λ v. Judges v link.entry.now) }
     ensures saw { OnOk result (O.Saw link.entry.now observer.new) }
 {
-    let Some(named) = open_named(alloc, &link.plan, link.files, seed)? else {
+    let Some(named) = open_named(alloc, &link.plan, link.parts, link.files, seed)? else {
         return Ok(no(Clause::C2, link));
     };
     let NamedObjects { objects, names } = named;

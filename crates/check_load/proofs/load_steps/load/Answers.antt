@@ -1,9 +1,9 @@
 use Rattle.std.proofs.Common.{◌≡◌, ◌∙◌, List, [], subst, sym}
 use Rattle.std.proofs.lemmas.Result.{IfErr-weaker, err_from_is_err_and, on_ok_weaker}
-use Rattle.elf_model.specs.Inputs.Files.{files_of}
 use Rattle.elf_model.specs.Link.Loading.{LoadedObject, loaded_steps, steps}
 use Rattle.elf_model.specs.Inputs.Opening.{Opened, opened}
 use Rattle.std.specs.Prelude.{All, IfOk}
+use Rattle.opening.specs.Held.{held_files}
 use Rattle.check_load.specs.Loaders.{AreLoadable}
 use Rattle.check_load.specs.Plans.{CanLoad}
 use Rattle.check_load.specs.Views.{loaded_views}
@@ -18,28 +18,28 @@ use Rattle.check_load.proofs.load_steps.load.Goals as goal
 pub returns-in_err-inputs-clause-stop : goal.returns-in_err-inputs-clause-stop
 returns-in_err-inputs-clause-stop c =
     let p = err_from_is_err_and c.from_residual.result c.from_residual.ensures.1 in
-    rw (p.1, p.2) (reading_stops (files_of c.args.files.now) c.args.plan.now c.in_err-inputs.field-0.0 c.in_err-inputs.ensures.fault)
+    rw (p.1, p.2) (reading_stops (held_files c.args.parts.now c.args.files.now) c.args.plan.now c.in_err-inputs.field-0.0 c.in_err-inputs.ensures.fault)
 
 pub load_all-requires-clause-at : goal.load_all-requires-clause-at
 load_all-requires-clause-at c =
-    let inputs : c.deref.result.now ≡ opened (files_of c.args.files.now) c.args.plan.now = c.deref.ensures.value ∙ c.in_ok-inputs.ensures.exact in
-    subst (λ (xs : List Opened). All (IsAt xs) xs) (sym inputs) (all_at (files_of c.args.files.now) c.args.plan.now)
+    let inputs : c.deref.result.now ≡ opened (held_files c.args.parts.now c.args.files.now) c.args.plan.now = c.deref.ensures.value ∙ c.in_ok-inputs.ensures.exact in
+    subst (λ (xs : List Opened). All (IsAt xs) xs) (sym inputs) (all_at (held_files c.args.parts.now c.args.files.now) c.args.plan.now)
 
 pub load_all-requires-clause-numbers : goal.load_all-requires-clause-numbers
 load_all-requires-clause-numbers c =
-    let inputs : c.deref.result.now ≡ opened (files_of c.args.files.now) c.args.plan.now = c.deref.ensures.value ∙ c.in_ok-inputs.ensures.exact in
-    subst AreSideBySide (sym inputs) (side_opened (files_of c.args.files.now) c.args.plan.now)
+    let inputs : c.deref.result.now ≡ opened (held_files c.args.parts.now c.args.files.now) c.args.plan.now = c.deref.ensures.value ∙ c.in_ok-inputs.ensures.exact in
+    subst AreSideBySide (sym inputs) (side_opened (held_files c.args.parts.now c.args.files.now) c.args.plan.now)
 
 pub returns-clause-loaded : goal.returns-clause-loaded
 returns-clause-loaded c =
-    let files = files_of c.args.files.now in
+    let files = held_files c.args.parts.now c.args.files.now in
     let plan = c.args.plan.now in
     let inputs : c.deref.result.now ≡ opened files plan = c.deref.ensures.value ∙ c.in_ok-inputs.ensures.exact in
     subst (λ (os : List LoadedObject). IfOk c.load_all.result (λ v. loaded_views v.objects.items ≡ os)) (whole files plan c.deref.result.now inputs) c.load_all.ensures.loaded
 
 pub returns-clause-good : goal.returns-clause-good
 returns-clause-good c =
-    let files = files_of c.args.files.now in
+    let files = held_files c.args.parts.now c.args.files.now in
     let plan = c.args.plan.now in
     let inputs : c.deref.result.now ≡ opened files plan = c.deref.ensures.value ∙ c.in_ok-inputs.ensures.exact in
     on_ok_weaker c.load_all.result
@@ -48,7 +48,7 @@ returns-clause-good c =
 
 pub returns-clause-stop : goal.returns-clause-stop
 returns-clause-stop c =
-    let files = files_of c.args.files.now in
+    let files = held_files c.args.parts.now c.args.files.now in
     let plan = c.args.plan.now in
     let inputs : c.deref.result.now ≡ opened files plan = c.deref.ensures.value ∙ c.in_ok-inputs.ensures.exact in
     let os = loaded_steps plan (steps c.deref.result.now) [] in

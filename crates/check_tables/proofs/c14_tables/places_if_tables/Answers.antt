@@ -11,7 +11,7 @@ strip_tables-requires-clause-lines c =
     let s = c.behind-bound.view_is ∙ c.link.ensures in
     let rows = ap (λ (t : Subject). t.map.symbols) s in
     lines_are c.args.bound.now c.bindings.result.now _ c.bindings.ensures rows
-    (subst (λ (t : Subject). Ascends SymbolBefore t.map.symbols) s c.behind-bound.invariant.ordered.symbols)
+    (subst (λ (t : Subject). Ascends SymbolBefore t.map.symbols) s c.behind-bound.invariant.0.ordered.symbols)
     (c.requires.clauses C13 (omega arith))
 
 pub strip_tables-requires-clause-choices : goal.strip_tables-requires-clause-choices
