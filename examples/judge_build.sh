@@ -52,7 +52,7 @@ int sum(const int *numbers, int count) {
 }
 END
 cat >Makefile <<'END'
-CFLAGS = -O1 -ffreestanding -fno-pie -fno-stack-protector -fno-asynchronous-unwind-tables -fcf-protection=none
+CFLAGS = -O1 -ffreestanding -fno-pie -fno-stack-protector -fcf-protection=none
 program: main.o sum.o
 	$(CC) -static -nostdlib -no-pie -o $@ main.o sum.o
 clean:

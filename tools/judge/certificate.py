@@ -4,10 +4,12 @@
     tools/judge/certificate.py [--driven] IMAGE PEERMAP WORDS >CERTIFICATE
 
 IMAGE and PEERMAP are that linker's image, with its symbols, and its map (-Map); WORDS are those of our `ld` for the same link,
-which says which objects they load, and in which order, unless PEERMAP says it; with --driven they are the other linker's own. The certificate is our map of these words with the addresses that PEERMAP
-and the image's symbols tell. In front it has a line `note ADDRESS SIZE`, in decimal digits, for each note that the linker made, a line
-`area ADDRESS SIZE` for each area of merged strings and constants, and `merged OBJECT SECTION OFFSET SIZE ADDRESS` for each of these. It
-needs no trust: with a wrong one `ld-judge` says no. LD_PROGRAM is our linker, where it isn't crates/ld/out/ld.
+which says which objects they load, and in which order, unless PEERMAP says it; with --driven they are the other linker's own. The
+certificate is our map of these words with the addresses that PEERMAP and the image's symbols tell. In front it has a line `note ADDRESS
+SIZE`, in decimal digits, for each note that the linker made, a line `area ADDRESS SIZE` for each area of merged strings and constants
+and of call frames, `merged OBJECT SECTION OFFSET SIZE ADDRESS` for each string and constant, `frames ADDRESS SIZE` for the list of call
+frames and `frame OBJECT SECTION OFFSET SIZE ADDRESS` for each record of these. It needs no trust: with a wrong one `ld-judge` says no.
+LD_PROGRAM is our linker, where it isn't crates/ld/out/ld.
 """
 
 import struct
@@ -17,6 +19,7 @@ from pathlib import Path
 from typing import Dict, Iterator, List, Optional, Set, Tuple
 
 import elf
+import frames
 import linkmap
 import merged
 import order
@@ -34,16 +37,16 @@ LINKERS_NAMES = set(
 )
 
 
-def merging(link: Skeleton) -> Set[Tuple[int, int]]:
-    """The sections that linkers may merge: none that relocations change."""
+def merging(link: Skeleton, places: List[linkmap.Place]) -> Set[Tuple[int, int]]:
+    """The sections among some that linkers may merge: none that relocations change."""
     changed = {(owner, entry.section) for owner, it in enumerate(link.objects) for entry in it.relocations()}
-    keys = {(place.owner, place.section): link.section(place) for place in link.map.places}
+    keys = {(place.owner, place.section): link.section(place) for place in places}
     return {key for key, section in keys.items() if merged.is_mergeable(section) and key not in changed}
 
 
 def without_merged(link: Skeleton, image: elf.Image, kept: List[linkmap.Place]) -> List[linkmap.Place]:
     """The places without those of sections that linkers may merge, unless each of these is at its own with its bytes."""
-    keys = merging(link)
+    keys = merging(link, link.map.places)
     plain = [place for place in kept if (place.owner, place.section) not in keys]
     others = [place for place in kept if (place.owner, place.section) in keys and place.size]
     own = [place for place in link.map.places if (place.owner, place.section) in keys and place.size]
@@ -57,20 +60,25 @@ def without_merged(link: Skeleton, image: elf.Image, kept: List[linkmap.Place]) 
 
 
 def add_frames(link: Skeleton, image: elf.Image, spots: peers.Spots) -> None:
-    """Adds where call frames are that end a list and have nothing else: LLD and mold have no lines for any, and one list of their own."""
-    frames = [place for place in link.map.places if link.section(place).name == ".eh_frame"]
-    keys = [(link.labels[place.owner], ".eh_frame") for place in frames]
+    """Adds where call frames are that end a list and have nothing else: LLD and mold have no lines for any, and one list of their own.
+    Where sections have records, or the linker made a table of these, it made one list of all, and none has a line."""
+    ends = [place for place in link.map.places if link.section(place).name == ".eh_frame"]
+    keys = [(link.labels[place.owner], ".eh_frame") for place in ends]
     address = dict(image.sections).get(".eh_frame")
-    contents = [link.objects[place.owner].content(place.section) for place in frames]
-    if address is None or any(key in spots for key in keys) or any(any(content) for content in contents):
+    contents = [link.objects[place.owner].content(place.section) for place in ends]
+    if any(any(content) for content in contents) or frames.tables(image):
+        link.map.places = [place for place in link.map.places if link.section(place).name != ".eh_frame"]
+        return
+    if address is None or any(key in spots for key in keys):
         return
     if sum(1 for content in contents if content) <= 1:
-        spots.update({key: deque([(address, place.size)]) for key, place in zip(keys, frames)})
+        spots.update({key: deque([(address, place.size)]) for key, place in zip(keys, ends)})
 
 
-def put_places(link: Skeleton, image: elf.Image, spots: peers.Spots) -> None:
+def put_places(link: Skeleton, image: elf.Image, spots: peers.Spots, collects: bool) -> None:
     """Gives each section the address of the other linker's map. One that it has no line for, or one of another size, was edited and
-    gets no line, nor does any one of strings and constants then; an empty one is at the end of the one before it of its kind."""
+    gets no line, nor does any one of strings and constants then; an empty one is at the end of the one before it of its kind, unless
+    it may have been left out."""
     add_frames(link, image, spots)
     ends: Dict[Tuple[int, bool], int] = {}
     kept: List[linkmap.Place] = []
@@ -82,13 +90,35 @@ def put_places(link: Skeleton, image: elf.Image, spots: peers.Spots) -> None:
             if size == place.size:
                 ends[part(section)] = place.address + size
                 kept.append(place)
-        elif place.size == 0:
+        elif place.size == 0 and (not collects or stays(section)):
             place.address = up(ends.get(part(section), 0), section.align)
             kept.append(place)
     least = min((place.address for place in kept if place.address), default=0)
     for place in kept:
         place.address = place.address or up(least, link.section(place).align)
     link.map.places = without_merged(link, image, kept)
+
+
+# The last of these words says whether the linker leaves out what nothing refers to.
+COLLECTING = {"--gc-sections": True, "-gc-sections": True, "--no-gc-sections": False, "-no-gc-sections": False}
+ARRAYS = (14, 15, 16)
+ROOTS = (".init", ".fini", ".ctors", ".dtors", ".init_array", ".fini_array", ".preinit_array", ".eh_frame")
+
+
+def stays(section: elf.Section) -> bool:
+    """Whether --gc-sections keeps a section by its type or its name."""
+    return section.kind in ARRAYS or any(section.name == root or section.name.startswith(root + ".") for root in ROOTS)
+
+
+def put_drops(link: Skeleton, all_places: List[linkmap.Place]) -> None:
+    """Leaves out the sections that have no line, where --gc-sections is among the words and the linker can't have edited them."""
+    placed, edited = {(place.owner, place.section) for place in link.map.places}, merging(link, all_places)
+    drops = [tuple(int(part) for part in line.split()[1:]) for line in link.map.drops]
+    for place in all_places:
+        key = (place.owner, place.section)
+        if key not in placed and key not in edited and not stays(link.section(place)):
+            drops.append(key)
+    link.map.drops = [f"drop {owner} {section}" for owner, section in sorted(set(drops))]
 
 
 def notes_in(image: elf.Image, segment: elf.Segment) -> Iterator[Tuple[int, int]]:
@@ -183,7 +213,11 @@ def certificate(image_path: str, peer_path: str, words: List[str], driven: bool)
     link.map.places = [place for place in link.map.places if link.section(place).name != PROPERTY]
     peer_map = Path(peer_path).read_text(errors="surrogateescape")
     order.put_order(link, peer_map)
-    put_places(link, image, peers.read(peer_map))
+    all_places = link.map.places
+    collects = [COLLECTING[word] for word in words if word in COLLECTING][-1:] == [True]
+    put_places(link, image, peers.read(peer_map), collects)
+    if collects:
+        put_drops(link, all_places)
     # An image without a symbol table tells by its fields what names are.
     image.values = {**told_by_fields(link, image), **image.values}
     put_commons(link, image)
@@ -194,9 +228,13 @@ def certificate(image_path: str, peer_path: str, words: List[str], driven: bool)
     link.map.slots = []
     notes = made_notes(link, image)
     lines = merged.merged_lines(link, image, by_numbers(link), notes, lambda it, place, entry: told_by(it, image, place, entry))
+    listed, records = frames.put_frames(link, image, by_numbers(link))
+    stretches = [merged.Line(0, 0, 0, len(listed.data), listed.address)] if listed else []
     front = [f"note {address} {size}" for address, size in notes]
-    front += [f"area {address} {size}" for address, size in merged.areas_of(lines)]
+    front += [f"area {address} {size}" for address, size in merged.areas_of(lines + stretches + frames.tables(image))]
     front += [f"merged {line.owner} {line.section} {line.offset} {line.size} {line.address}" for line in lines]
+    front += [f"frames {line.address} {line.size}" for line in stretches]
+    front += [f"frame {line.owner} {line.section} {line.offset} {line.size} {line.address}" for line in records]
     return "".join(f"{line}\n" for line in front) + linkmap.write(link.map)
 
 

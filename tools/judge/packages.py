@@ -4,8 +4,9 @@
     tools/judge/packages.py SOURCES [NAME..]
 
 SOURCES is a folder with the unpacked sources of packages (as `apt-get source` leaves them); NAME picks some of PACKAGES. Each is built
-by its own makefile with CC, in a copy. Its links are noted, and done again by GNU ld, gold and LLD, with their own flags, with -O2 and
-stripped, behind tools/judge/bin. LLD isn't given the -dynamic-linker that musl-gcc names for static links too: it would make a PT_INTERP.
+by its own makefile with CC, in a copy. Its links are noted, and done again by GNU ld, gold, LLD and mold, with their own flags, with
+-O2, stripped, and with a table of call frames, behind tools/judge/bin. LLD and mold aren't given the -dynamic-linker that musl-gcc names
+for static links too: they would make a PT_INTERP.
 A row of the table is a package and a linker: how many links got a yes, and what was said of the others. LD_JUDGE and LD_PROGRAM are the
 judge and our linker, where they aren't the proved ones.
 """
@@ -30,14 +31,14 @@ PACKAGES: Dict[str, str] = {
     "sqlite3": "(CC=gcc ./configure && make CC=gcc sqlite3.c shell.c) && $CC -O2 -DSQLITE_THREADSAFE=0 -DSQLITE_OMIT_LOAD_EXTENSION -c shell.c sqlite3.c && $CC -o sqlite3 shell.o sqlite3.o",
     "zlib": "CFLAGS=-O2 ./configure --static && make minigzip example",
 }
-COMPILER = "musl-gcc -static -no-pie -fno-pie -fno-asynchronous-unwind-tables"
+COMPILER = "musl-gcc -static"
 NOTING = """#!/usr/bin/env python3
 import json, os, sys
 with open(os.environ["NOTED_LINKS"], "a") as noted:
     noted.write(json.dumps([os.getcwd(), sys.argv[1:]]) + "\\n")
 os.execvp("ld.bfd", ["ld.bfd"] + sys.argv[1:])
 """
-WAYS = [(linker, flags) for linker in ("ld.bfd", "ld.gold", "ld.lld") for flags in ([], ["-O2"], ["-s"])]
+WAYS = [(linker, flags) for linker in ("ld.bfd", "ld.gold", "ld.lld", "ld.mold") for flags in ([], ["-O2"], ["-s"], ["--eh-frame-hdr"])]
 
 
 def links_of(sources: Path, name: str, room: Path) -> "List[List[object]]":
@@ -71,7 +72,7 @@ def without_loader(words: List[str]) -> List[str]:
 def said(link: "List[object]", linker: str, flags: List[str]) -> str:
     """What is said of a link by a linker."""
     where, words = str(link[0]), [str(word) for word in link[1]]  # type: ignore[attr-defined]
-    words = without_loader(words) if linker == "ld.lld" else words
+    words = without_loader(words) if linker in ("ld.lld", "ld.mold") else words
     with tempfile.TemporaryDirectory() as folder:
         at = words.index("-o") + 1
         words[at] = f"{folder}/image"

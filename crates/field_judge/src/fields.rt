@@ -71,7 +71,7 @@ fn is_mismatch(formula: Formula, thread: bool) -> bool
 }
 
 /// What the slot of a formula holds; None of one without.
-fn slot_kind_of(formula: Formula) -> Option<SlotKind>
+pub fn slot_kind_of(formula: Formula) -> Option<SlotKind>
     ensures { result ≡ slots.slot_kind_of (formula_view formula) }
 {
     match formula {

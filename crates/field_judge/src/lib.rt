@@ -11,7 +11,7 @@ mod ranges;
 mod rewrites;
 mod rewritten;
 
-pub use fields::{Asked, asked_slot, is_right};
+pub use fields::{Asked, asked_slot, is_right, slot_kind_of};
 pub use instructions::{Instruction, front_of, instruction_in};
 pub use kinds::{Formula, Kind, Range, foreign_kind};
 pub use pointers::thread_pointer;

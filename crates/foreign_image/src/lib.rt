@@ -4,9 +4,11 @@
 //! Begin with `ForeignImage::read`.
 #![tactic(auto)]
 
+mod frame_tables;
 mod header;
 mod image;
 mod segments;
 mod table;
 
+pub use frame_tables::{has_frame_table, is_frame_table, table_stretch};
 pub use image::ForeignImage;

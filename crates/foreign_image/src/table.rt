@@ -1,5 +1,5 @@
 //! The rules of a program header table, each a test over the headers alone.
-ghost use Rattle.std.specs.Prelude.{◌≡◌, ◌↔◌, ◌+◌, ◌/◌, ◌<◌, ◌≤◌, ◌^◌, ◌||◌, ℕ, All, Any, AllPairs, IsTrue, length, slice_index_or, true};
+ghost use Rattle.std.specs.Prelude.{◌≡◌, ◌↔◌, ◌⊎◌, ◌+◌, ◌/◌, ◌<◌, ◌≤◌, ◌^◌, ◌||◌, ℕ, All, Any, AllPairs, IsTrue, length, slice_index_or, true};
 ghost use Rattle.elf_model.specs.declared.records.ProgramHeader.{ProgramHeader};
 ghost use Rattle.elf_model.specs.Image.MemoryImage.{is_load};
 ghost use Rattle.judge_model.specs.Headers.{AreLoads, AreTypesRight, BeginsIn, IsLoad, IsPartOf, IsSingle, IsTable, IsTrueOf, is_many_type, is_placed_type, is_single_type};
@@ -186,15 +186,23 @@ fn end_page(g: &ProgramHeader) -> u64
     g.p_vaddr / PAGE + g.p_memsz / PAGE + bytes / PAGE
 }
 
-/// Whether a header begins in a segment, at the same place of the file, and ends before whole pages behind it.
+/// Whether a header's place in the file is 0, or where a segment says that it is.
+fn is_in_file_as(h: &ProgramHeader, g: &ProgramHeader) -> bool
+    ensures { IsTrue result ↔ ((h.now.p_offset ≡ 0)
+        ⊎ (h.now.p_offset + g.now.p_vaddr ≡ g.now.p_offset + h.now.p_vaddr)) }
+{
+    h.p_offset == 0
+        || h.p_offset as u128 + g.p_vaddr as u128 == g.p_offset as u128 + h.p_vaddr as u128
+}
+
+/// Whether a header begins in a segment, at the same place of the file or 0, and ends before whole pages behind it.
 fn begins_in(h: &ProgramHeader, g: &ProgramHeader) -> bool
     ensures { IsTrue result ↔ BeginsIn h.now g.now }
 {
-    if h.p_vaddr < g.p_vaddr || h.p_offset < g.p_offset {
+    if h.p_vaddr < g.p_vaddr || h.p_vaddr - g.p_vaddr > g.p_memsz {
         return false;
     }
-    let into = h.p_vaddr - g.p_vaddr;
-    if h.p_offset - g.p_offset != into || into > g.p_memsz {
+    if !is_in_file_as(h, g) {
         return false;
     }
     last_page(h) <= end_page(g)

@@ -9,7 +9,7 @@ use Rattle.std.proofs.lemmas.List.Elements.{All-head, All-tail, filter_map-appen
 use Rattle.std.proofs.lemmas.Option.{none-some, same_Some}
 use Rattle.elf_model.specs.Inputs.Command.{AllFollow, Base, Check, Directory, Entry, GroupEnd, GroupStart, HasPlan, Input, Item, IsPhrases, IsSpelled, Library, MapFile, MayFollow, NoEffect, Output, Path, Phrase, Strip, Undefined, WholeEnd, WholeStart, group_in, is_archive, is_check, is_open, item_behind, items_behind, plan_of_phrases}
 use Rattle.judge_model.specs.Plans.{ForeignPlan}
-use Rattle.judge_model.specs.Words.{Begins, Collects, ExecutesStack, Feature, IsAsked, Nothing, Profile, Says, Segment, StripsLocal, TakesFirst, WritesCode, phrases_of, plan_said, said}
+use Rattle.judge_model.specs.Words.{Begins, Collects, ExecutesStack, Feature, IsAsked, Nothing, Profile, Says, Segment, StripsLocal, Tables, TakesFirst, WritesCode, phrases_of, plan_said, said}
 use Rattle.foreign_words.specs.Sound.{IsSound, IsSoundPhrase}
 use Rattle.foreign_words.specs.Spelled.{are_grouped, has_item, is_command, is_item, is_open_after, may_stand, phrase_words, spelling}
 
@@ -35,6 +35,7 @@ spelled Strip s = refl
 more_phrases : (s : Says) (ss : List Says) → IsSound s → IsPhrases (spelling ss) (phrases_of ss) → IsPhrases (spelling (s ∷ ss)) (phrases_of (s ∷ ss))
 more_phrases (Profile p) ss sound rest = (phrase_words p, spelling ss, refl, spelled p sound, rest)
 more_phrases (Collects b) ss sound rest = rest
+more_phrases (Tables b) ss sound rest = rest
 more_phrases TakesFirst ss sound rest = rest
 more_phrases WritesCode ss sound rest = rest
 more_phrases (ExecutesStack b) ss sound rest = rest
@@ -145,6 +146,7 @@ grouped_follow (Profile p ∷ ss) front g =
     let rest = grouped_follow ss (front ++ p ∷ []) (ap (λ b. are_grouped b ss) (sym (next_open front p)) ∙ parts.1) in
     ((follow front p parts.0, rest.0), ap is_open (sym (append_assoc front (p ∷ []) (phrases_of ss))) ∙ rest.1)
 grouped_follow (Collects b ∷ ss) front g = grouped_follow ss front g
+grouped_follow (Tables b ∷ ss) front g = grouped_follow ss front g
 grouped_follow (TakesFirst ∷ ss) front g = grouped_follow ss front g
 grouped_follow (WritesCode ∷ ss) front g = grouped_follow ss front g
 grouped_follow (ExecutesStack b ∷ ss) front g = grouped_follow ss front g
@@ -161,6 +163,7 @@ follow_grouped (Profile p ∷ ss) front c =
     both_true (may_stand (is_open front) (Profile p)) (are_grouped (is_open_after (is_open front) (Profile p)) ss)
     (followed front p c.0.0) (ap (λ b. are_grouped b ss) (next_open front p) ∙ rest)
 follow_grouped (Collects b ∷ ss) front c = follow_grouped ss front c
+follow_grouped (Tables b ∷ ss) front c = follow_grouped ss front c
 follow_grouped (TakesFirst ∷ ss) front c = follow_grouped ss front c
 follow_grouped (WritesCode ∷ ss) front c = follow_grouped ss front c
 follow_grouped (ExecutesStack b ∷ ss) front c = follow_grouped ss front c
@@ -200,6 +203,7 @@ no_items : (ss : List Says) (front : List Phrase) → HasNone front (phrases_of 
 no_items [] front = refl
 no_items (Profile p ∷ ss) front = next_items p ss front (no_items ss)
 no_items (Collects b ∷ ss) front = no_items ss front
+no_items (Tables b ∷ ss) front = no_items ss front
 no_items (TakesFirst ∷ ss) front = no_items ss front
 no_items (WritesCode ∷ ss) front = no_items ss front
 no_items (ExecutesStack b ∷ ss) front = no_items ss front
@@ -234,6 +238,7 @@ no_check (s ∷ ss) sound = by s (All-head IsSound s ss sound) (no_check ss (All
     by : (x : Says) → IsSound x → list_any is_check (phrases_of ss) ≡ false → list_any is_check (phrases_of (x ∷ ss)) ≡ false
     by (Profile p) is rest = of p is rest
     by (Collects b) is rest = rest
+    by (Tables b) is rest = rest
     by TakesFirst is rest = rest
     by WritesCode is rest = rest
     by (ExecutesStack b) is rest = rest

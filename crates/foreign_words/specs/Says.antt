@@ -23,6 +23,7 @@ switch_view switch.WholeStart = words.Profile command.WholeStart
 switch_view switch.WholeEnd = words.Profile command.WholeEnd
 switch_view switch.Strip = words.Profile command.Strip
 switch_view (switch.Collects b) = words.Collects b
+switch_view (switch.Tables b) = words.Tables b
 switch_view switch.TakesFirst = words.TakesFirst
 switch_view switch.WritesCode = words.WritesCode
 switch_view (switch.ExecutesStack b) = words.ExecutesStack b

@@ -11,6 +11,7 @@ abbrev pub plan_with : Plan → Wider → ForeignPlan
 plan_with p w = record {
   plan = p;
   collects = w.collects;
+  tables = w.tables;
   takes_first = w.takes_first;
   writes_code = w.writes_code;
   executes_stack = w.executes_stack;

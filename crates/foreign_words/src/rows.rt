@@ -306,11 +306,11 @@ static ROWS: [Row; 64] = [
     },
     Row {
         text: "--eh-frame-hdr",
-        form: Form::Alone(Switch::Nothing),
+        form: Form::Alone(Switch::Tables(true)),
     },
     Row {
         text: "--no-eh-frame-hdr",
-        form: Form::Alone(Switch::Nothing),
+        form: Form::Alone(Switch::Tables(false)),
     },
     Row {
         text: "--no-relax",

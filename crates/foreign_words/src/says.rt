@@ -9,8 +9,8 @@ pub struct Start<'w> {
 }
 
 /// What a word says that stands alone: that a group or whole archives begin or end, that the image has no names, that sections
-/// are collected or not, that the first of two definitions counts, that code may be written or the stack executed, bits of the
-/// property note, that LOCAL names are missing, or nothing that is judged.
+/// are collected or not, that call frames get a table or not, that the first of two definitions counts, that code may be written or
+/// the stack executed, bits of the property note, that LOCAL names are missing, or nothing that is judged.
 #[derive(Clone, Copy, Debug)]
 pub enum Switch {
     GroupStart,
@@ -19,6 +19,7 @@ pub enum Switch {
     WholeEnd,
     Strip,
     Collects(bool),
+    Tables(bool),
     TakesFirst,
     WritesCode,
     ExecutesStack(bool),

@@ -8,12 +8,14 @@ ghost use Rattle.foreign_words.specs.Wider.{IsWider};
 use crate::says::{Says, Start, Switch};
 use std::alloc::{AllocError, Global};
 
-/// What words say that the profile's don't: whether sections are collected (`--gc-sections`), the first of two definitions counts
+/// What words say that the profile's don't: whether sections are collected (`--gc-sections`), call frames get a table
+/// (`--eh-frame-hdr`), the first of two definitions counts
 /// (`-z muldefs`), code may be written (`-N`), the stack executed or not (`-z execstack`, `-z noexecstack`), the bits of the property note that they ask
 /// for, where the first segment begins, where output sections do, and whether LOCAL names may be missing (`-x`).
 #[derive(Debug, Drop)]
 pub struct Wider<'w> {
     pub collects: bool,
+    pub tables: bool,
     pub takes_first: bool,
     pub writes_code: bool,
     pub executes_stack: Option<bool>,
@@ -28,6 +30,15 @@ fn collects_in(says: &Says<'_>) -> Option<bool>
 {
     match says {
         Says::Switch(Switch::Collects(collects)) => Some(*collects),
+        _ => None,
+    }
+}
+
+fn tables_in(says: &Says<'_>) -> Option<bool>
+    ensures { result ≡ spec.tables_in (says_view says.now) }
+{
+    match says {
+        Says::Switch(Switch::Tables(tables)) => Some(*tables),
         _ => None,
     }
 }
@@ -94,6 +105,19 @@ fn last_collects(all: &[Says<'_>]) -> Option<bool>
     for says in all {
         if let Some(collects) = collects_in(says) {
             last = Some(collects);
+        }
+    }
+    last
+}
+
+/// Whether call frames get a table, by the last word of that.
+fn last_tables(all: &[Says<'_>]) -> Option<bool>
+    ensures { result ≡ spec.last_of spec.tables_in (says_views all.now) }
+{
+    let mut last = None;
+    for says in all {
+        if let Some(tables) = tables_in(says) {
+            last = Some(tables);
         }
     }
     last
@@ -191,6 +215,7 @@ pub fn wider_of<'w>(alloc: Global, all: &[Says<'w>]) -> Result<Wider<'w>, AllocE
 {
     Ok(Wider {
         collects: last_collects(all).unwrap_or(false),
+        tables: last_tables(all).unwrap_or(false),
         takes_first: some_takes_first(all),
         writes_code: some_writes_code(all),
         executes_stack: last_stack(all),

@@ -1,13 +1,12 @@
 //! Whether linkers edit a section in a way that isn't judged: they merge strings and constants (SHF_MERGE) that relocations change, or
-//! that aren't read-only data by their name, and read call frames and write them anew, unless a line says where such a section is as it
-//! came.
+//! that aren't read-only data by their name, unless a line says where such a section is as it came.
 ghost use Rattle.std.specs.Prelude.{◌≡◌, ◌↔◌, ◌&&◌, ◌||◌, ℕ, All, IfOk, IsTrue, false, map, not};
 ghost use Rattle.check_link.specs.Views.{piece_view, piece_views};
 ghost use Rattle.check_load.specs.Views.{loaded_views};
 ghost use Rattle.elf_model.specs.Image.MapRecord.{place_row};
 ghost use Rattle.input_judge.specs.Edited.{is_edited_by, is_unmergeable_by};
 ghost use Rattle.input_judge.specs.SectionSets.{has_section};
-ghost use Rattle.judge_model.specs.Links.{ForeignLink, is_frames, objects_of};
+ghost use Rattle.judge_model.specs.Links.{ForeignLink, objects_of};
 ghost use Rattle.judge_model.specs.RightForeign.{is_edited, is_of_constants};
 
 use crate::section_sets::SectionSet;
@@ -35,12 +34,6 @@ fn is_unmergeable(piece: &Piece<'_>, relocated: &SectionSet) -> bool
     is_mergeable(piece) && (relocated.has(piece.object, piece.section) || !is_of_constants(piece))
 }
 
-fn is_frames(piece: &Piece<'_>) -> bool
-    ensures { result ≡ is_frames (piece_view piece.now) }
-{
-    piece.name == b".eh_frame".as_slice()
-}
-
 /// Whether linkers edit a section, given those that have lines and those that relocations change.
 fn is_edited(piece: &Piece<'_>, placed: &SectionSet, relocated: &SectionSet) -> bool
     ensures { result ≡ is_edited_by (has_section placed.now) (has_section relocated.now)
@@ -49,7 +42,7 @@ fn is_edited(piece: &Piece<'_>, placed: &SectionSet, relocated: &SectionSet) -> 
     if placed.has(piece.object, piece.section) {
         return false;
     }
-    is_unmergeable(piece, relocated) || is_frames(piece)
+    is_unmergeable(piece, relocated)
 }
 
 fn is_unedited(piece: &Piece<'_>, placed: &SectionSet, relocated: &SectionSet) -> bool
@@ -73,8 +66,8 @@ fn are_unedited_by(pieces: &[Piece<'_>], placed: &SectionSet, relocated: &Sectio
 }
 
 /// Whether linkers edit none of some sections of objects in a way that isn't judged, given the lines of sections: strings and constants
-/// that may be merged, and that relocations change or whose section isn't one of read-only data by its name, and call frames have
-/// lines, which say where they are as they came.
+/// that may be merged, and that relocations change or whose section isn't one of read-only data by its name, have lines, which say where
+/// they are as they came.
 ///
 /// # Errors
 ///

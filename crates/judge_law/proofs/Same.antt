@@ -14,7 +14,7 @@ use Rattle.elf_model.specs.Link.Relocation.{Kind, Relocation, modulo_64}
 use Rattle.elf_model.specs.Link.Slots.{slot_kind_of}
 use Rattle.elf_model.specs.Inputs.ObjectFile.{rela_type}
 use Rattle.judge_model.specs.Rewrites.{front_of, front_of_type, is_at_end}
-use Rattle.judge_model.specs.Fields.{foreign_kinds, HoldsField, HoldsPlain, HoldsRest, HoldsValue, IsFieldRight, field_address, field_value, got_of, kind_of, size_of, whole_value}
+use Rattle.judge_model.specs.Fields.{foreign_kinds, HoldsField, HoldsPlain, HoldsRest, HoldsValue, IsFieldRight, IsPlaceRight, field_address, field_value, got_of, kind_of, size_of, whole_value}
 use Rattle.judge_model.specs.Links.{ForeignLink, placed_of, relocations_of}
 use Rattle.judge_model.specs.Means.{meant}
 use Rattle.judge_model.specs.declared.judgement.Requirement.TheVariants.{F5, F7}
@@ -92,7 +92,7 @@ no_instruction r none told =
         let zero : front_of_type (rela_type r.entry) ≡ 0 = rw (e, f, g, h) refl in absurd (omega (arith, low, zero))
 
 -- so memory has the field of its kind for one that finds none
-unchanged : (l : ForeignLink) (r : Relocation) → HasNoSlot r → IsFieldRight l r → IsSomeAnd (kind_of r) (HoldsField l r)
+unchanged : (l : ForeignLink) (r : Relocation) → HasNoSlot r → IsPlaceRight l r → IsSomeAnd (kind_of r) (HoldsField l r)
 unchanged l r none (inl same) = same.field
 unchanged l r none (inr (i, w, low, is, row)) = absurd (no_instruction r none row.told)
 
@@ -101,9 +101,9 @@ right_links_same l image a b same = record {
   sections = All-from_contains (AreSameOutside l image) (placed_of l) (λ q c k below outside.
       (All-contains (HoldsRest l) (placed_of l) q (a.holds F7) c).bytes k below outside
       ∙ sym ((All-contains (HoldsRest (with_image l image)) (placed_of l) q (b.holds F7) c).bytes k below outside));
-  fields = All-from_contains (AreSameInField l image) (relocations_of l) (λ r c none j below.
+  fields = All-from_contains (AreSameInField l image) (relocations_of l) (λ r c out none j below.
       field l image r j (kind_of r)
-      (unchanged l r none (All-contains (IsFieldRight l) (relocations_of l) r (a.holds F5) c))
-      (unchanged (with_image l image) r none (All-contains (IsFieldRight (with_image l image)) (relocations_of l) r (b.holds F5) c))
+      (unchanged l r none ((All-contains (IsFieldRight l) (relocations_of l) r (a.holds F5) c).right out))
+      (unchanged (with_image l image) r none ((All-contains (IsFieldRight (with_image l image)) (relocations_of l) r (b.holds F5) c).right out))
       none same below);
 }

@@ -34,25 +34,6 @@ start_below qs a start =
     let is = start.1.3 in
     omega (arith, end, is)
 
--- an address lies in a segment, or in none
-inside_one : (a : ℕ) (g : ProgramHeader) → Encloses g a 0 ⊎ (¬ Encloses g a 0)
-inside_one a g = by (cases_lt a g.p_vaddr) (cases_lt (g.p_vaddr + g.p_memsz) a)
-  where
-    by : (a < g.p_vaddr) ⊎ (g.p_vaddr ≤ a) → (g.p_vaddr + g.p_memsz < a) ⊎ (a ≤ g.p_vaddr + g.p_memsz) → Encloses g a 0 ⊎ (¬ Encloses g a 0)
-    by (inl low) end = inr (λ e. let l = e.0 in omega (arith, low, l))
-    by (inr low) (inl high) = inr (λ e. let l = e.1 in omega (arith, high, l))
-    by (inr low) (inr high) = inl (low, omega (arith, high))
-
-inside_or_not : (a : ℕ) (hs : List ProgramHeader) → Any (λ g. Encloses g a 0) hs ⊎ All (λ g. ¬ Encloses g a 0) hs
-inside_or_not a [] = inr (All-nil (λ (g : ProgramHeader). ¬ Encloses g a 0))
-inside_or_not a (h ∷ hs) = by (inside_one a h) (inside_or_not a hs)
-  where
-    by : Encloses h a 0 ⊎ (¬ Encloses h a 0) → Any (λ g. Encloses g a 0) hs ⊎ All (λ g. ¬ Encloses g a 0) hs
-        → Any (λ g. Encloses g a 0) (h ∷ hs) ⊎ All (λ g. ¬ Encloses g a 0) (h ∷ hs)
-    by (inl here) rest = inl (Any-here (λ (g : ProgramHeader). Encloses g a 0) h hs here)
-    by (inr never) (inl there) = inl (Any-there (λ (g : ProgramHeader). Encloses g a 0) h hs there)
-    by (inr never) (inr all) = inr (All-cons (λ (g : ProgramHeader). ¬ Encloses g a 0) h hs never all)
-
 module _ (s : Subject) (order : AreInOrder s) (holds : (c : Clause) → right.Holds c s) where
   abbrev qs : List Placed
   qs = right.placed_of s
@@ -84,14 +65,7 @@ module _ (s : Subject) (order : AreInOrder s) (holds : (c : Clause) → right.Ho
           inl
           (any_more (λ g. Encloses g h.p_vaddr h.p_filesz) (HoldsInitial h) (loads s.image) (λ g d inside. (same_offset h g c d, inside))
           (All-contains (right.HoldsInitial (loads s.image)) (thread_blocks s.image) h (holds C8).held c some))
-      by (inr none) = empty (inside_or_not h.p_vaddr (loads s.image))
-        where
-          empty : Any (λ g. Encloses g h.p_vaddr 0) (loads s.image) ⊎ All (λ g. ¬ Encloses g h.p_vaddr 0) (loads s.image) → HasInitial (loads s.image) h
-          empty (inl there) =
-              inl
-              (any_more (λ g. Encloses g h.p_vaddr 0) (HoldsInitial h) (loads s.image)
-              (λ g d inside. (same_offset h g c d, (inside.0, (let e = inside.1 in omega (arith, e, none))))) there)
-          empty (inr outside) = inr (record { none = omega (arith, none); outside = outside })
+      by (inr none) = inr (omega (arith, none))
 
   right_header : (a : ℕ) → start_of_pieces is_thread_piece qs ≡ Some a → Contains (thread_blocks s.image) (header a) → IsThreadHeader s.image qs (header a)
   right_header a e c = record {

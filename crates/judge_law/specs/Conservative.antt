@@ -16,6 +16,7 @@ abbrev pub plain_plan : Plan → ForeignPlan
 plain_plan p = record {
   plan = p;
   collects = false;
+  tables = false;
   takes_first = false;
   writes_code = false;
   executes_stack = None;
@@ -40,6 +41,8 @@ certificate_of s = record {
   notes = [];
   areas = [];
   merged = [];
+  list = None;
+  frames = [];
   names = names_of s.map.symbols;
   got = option_map (λ g. g.address) s.map.got;
 }

@@ -1,7 +1,6 @@
 -- What a judgement says of a link is what is said of it, and a right link has the status of one.
-use Rattle.std.proofs.Common.{◌≡◌, ℕ, List, false, arith, ap, inl, inr, refl, subst, sym, ◌∙◌}
+use Rattle.std.proofs.Common.{◌≡◌, ℕ, List, arith, ap, inl, inr, refl, subst, sym, ◌∙◌}
 use Rattle.std.specs.Prelude.{◌↔◌, Option}
-use Rattle.std.proofs.lemmas.Bool.{false≢true}
 use Rattle.std.proofs.lemmas.Option.{same_Some}
 use Rattle.elf_model.specs.Inputs.Files.{File}
 use Rattle.judge_model.specs.Certificates.{CertificateRecord}
@@ -25,21 +24,21 @@ use Rattle.link_judge.specs.Judged.{IsJudgedBy}
 same_plan : (words : List (List ℕ)) (p q : ForeignPlan) → IsAsked words p → IsAsked words q → p ≡ q
 same_plan words p q a b = a.plan_is ∙ (ap plan_said (same_Some a.says b.says (sym a.said_is ∙ b.said_is)) ∙ sym b.plan_is)
 
--- a link that is shown has no reason why it isn't judged, but for --gc-sections
-unjudged : (r : Reason) (l : ForeignLink) → IsReason r l → l.plan.collects ≡ false → IsShown l → ⊥
-unjudged reason.Unused l why keeps shown = false≢true (sym keeps ∙ why)
-unjudged reason.Unreadable l why keeps shown = why shown.judged.readable
-unjudged reason.Objects l why keeps shown =
+-- a link that is shown has no reason why it isn't judged
+unjudged : (r : Reason) (l : ForeignLink) → IsReason r l → IsShown l → ⊥
+unjudged reason.Unreadable l why shown = why shown.judged.readable
+unjudged reason.Objects l why shown =
     why (record { compiled = shown.judged.compiled; unique = shown.judged.unique; commons = shown.judged.commons })
-unjudged reason.Arrays l why keeps shown = why shown.judged.arrays
-unjudged reason.Edited l why keeps shown = why shown.judged.unedited
-unjudged reason.Joined l why keeps shown = why shown.judged.joined
-unjudged reason.Mixed l why keeps shown = why shown.judged.unmixed
-unjudged reason.Fields l why keeps shown =
+unjudged reason.Arrays l why shown = why shown.judged.arrays
+unjudged reason.Edited l why shown = why shown.judged.unedited
+unjudged reason.Records l why shown = why shown.judged.framed
+unjudged reason.Joined l why shown = why shown.judged.joined
+unjudged reason.Mixed l why shown = why shown.judged.unmixed
+unjudged reason.Fields l why shown =
     why (record { inside = shown.judged.inside; apart = shown.judged.apart; whole = shown.judged.whole })
-unjudged reason.Frames l why keeps shown = why shown.judged.untabled
-unjudged reason.Code l (shared, inl fields) keeps shown = fields (shown.holds F5)
-unjudged reason.Code l (shared, inr rests) keeps shown = rests (shown.holds F7)
+unjudged reason.Frames l why shown = why shown.judged.untabled
+unjudged reason.Code l (shared, inl fields) shown = fields (shown.holds F5)
+unjudged reason.Code l (shared, inr rests) shown = rests (shown.holds F7)
 
 module _ (words : List (List ℕ)) (files : List File) (image : List ℕ) (certificate : CertificateRecord) where
   pub said_of_judged : (j : Judgement) → IsJudgedBy words files image certificate j → IsOpinion words files image certificate (opinion_of j)
@@ -49,26 +48,26 @@ module _ (words : List (List ℕ)) (files : List File) (image : List ℕ) (certi
 
   -- the status of a right link is said exactly of one
   pub right_where_shown :
-      (o : Opinion) → IsOpinion words files image certificate o → (p : ForeignPlan) → IsAsked words p → p.collects ≡ false →
+      (o : Opinion) → IsOpinion words files image certificate o → (p : ForeignPlan) → IsAsked words p →
       (opinion_status o ≡ 0) ↔ IsShown (link_of files p image certificate)
-  right_where_shown Right is p asked keeps = (
+  right_where_shown Right is p asked = (
     λ zero. subst (λ (q : ForeignPlan). IsShown (link_of files q image certificate)) (same_plan words is.plan p is.asked asked) is.judges,
     λ shown. refl,
   )
-  right_where_shown (Wrong f) is p asked keeps = (
+  right_where_shown (Wrong f) is p asked = (
     λ zero. absurd (omega (arith, zero)),
     λ shown. absurd
         (is.judges.fails
         ((subst (λ (q : ForeignPlan). IsShown (link_of files q image certificate)) (same_plan words p is.plan asked is.asked) shown).holds f)),
   )
-  right_where_shown (Unjudged r) is p asked keeps = (
+  right_where_shown (Unjudged r) is p asked = (
     λ zero. absurd (omega (arith, zero)),
     λ shown. absurd
         (unjudged r (link_of files p image certificate)
         (subst (λ (q : ForeignPlan). IsReason r (link_of files q image certificate)) (same_plan words is.plan p is.asked asked) is.judges)
-        keeps shown),
+        shown),
   )
-  right_where_shown OtherWords is p asked keeps = (λ zero. absurd (omega (arith, zero)), λ shown. absurd (is p asked))
+  right_where_shown OtherWords is p asked = (λ zero. absurd (omega (arith, zero)), λ shown. absurd (is p asked))
 
   right_of_opinion : (o : Opinion) → IsOpinion words files image certificate o → opinion_status o ≡ 0 → HasRightForeign words
   right_of_opinion Right is zero = (files, (image, record { plan = is.plan; asked = is.asked; certificate = certificate; shown = is.judges }))

@@ -42,11 +42,11 @@ opinion_status OtherWords = 5
 opinion_status (Unjudged r) = 5
 
 abbrev pub subject : Reason → List ℕ
-subject reason.Unused = codes "--gc-sections"
 subject reason.Unreadable = codes "an input that can't be read"
 subject reason.Objects = codes "objects that leave open what is right"
 subject reason.Arrays = codes "an array of functions that may have gaps"
-subject reason.Edited = codes "strings or frames that the linker edited"
+subject reason.Edited = codes "strings that the linker edited"
+subject reason.Records = codes "call frames that can't be judged"
 subject reason.Joined = codes "a line for a property note"
 subject reason.Mixed = codes "sections of one name that are of several runs"
 subject reason.Fields = codes "fields that overlap or leave their section"

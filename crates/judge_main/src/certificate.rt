@@ -1,7 +1,9 @@
 //! A certificate from a text: a line `note ADDRESS SIZE` for each note that the linker made, `area ADDRESS SIZE` for each area of
-//! merged strings and constants, `merged OBJECT SECTION OFFSET SIZE ADDRESS` for each of these, all in decimal digits, and behind them a
-//! map (docs/MAP.md). Its lines say where the objects, sections, common blocks and the global offset table are, and those of symbols
-//! that the linker defines give the values of these names. A judge takes none of it on trust, so nothing is promised of it here.
+//! merged strings and constants or of call frames, `merged OBJECT SECTION OFFSET SIZE ADDRESS` for each string and constant, `frames
+//! ADDRESS SIZE` for the list of call frames and `frame OBJECT SECTION OFFSET SIZE ADDRESS` for each record of these, all in decimal
+//! digits, and behind them a map (docs/MAP.md). Its lines say where the objects, sections, common blocks and the global offset table
+//! are, and those of symbols that the linker defines give the values of these names. A judge takes none of it on trust, so nothing is
+//! promised of it here.
 use elf_model::{Definition, LinkMap, MapFault, SymbolLine};
 use judge_model::{Certificate, MergedLine, NameLine, StretchLine};
 use linkmap::read;
@@ -21,12 +23,15 @@ fn linkers_names(alloc: Global, symbols: Vec<SymbolLine>) -> Result<Vec<NameLine
     Ok(names)
 }
 
-/// The lines in front of a map: notes, areas of merged strings and constants, and where each of these is.
+/// The lines in front of a map: notes, areas of merged strings and constants and of call frames, where each string and constant is, the
+/// list of call frames, and where each record of these is.
 #[derive(Debug, Drop)]
 struct Front {
     notes: Vec<StretchLine>,
     areas: Vec<StretchLine>,
     merged: Vec<MergedLine>,
+    list: Option<StretchLine>,
+    frames: Vec<MergedLine>,
 }
 
 /// A line in front of a map.
@@ -35,6 +40,8 @@ enum FrontLine {
     Note(StretchLine),
     Area(StretchLine),
     Merged(MergedLine),
+    List(StretchLine),
+    Frame(MergedLine),
 }
 
 /// The number at the beginning of a line, and what stands behind the space that follows it.
@@ -52,7 +59,7 @@ fn stretch_of(line: &str) -> Option<StretchLine> {
     })
 }
 
-/// Where a string or a constant is, by its five numbers.
+/// Where a string, a constant or a record is, by its five numbers.
 fn merged_of(line: &str) -> Option<MergedLine> {
     let (object, rest) = number_of(line)?;
     let (section, rest) = number_of(rest)?;
@@ -67,20 +74,44 @@ fn merged_of(line: &str) -> Option<MergedLine> {
     })
 }
 
+/// The stretch of a line that begins with a word.
+fn stretch_behind(line: &str, word: &str) -> Option<StretchLine> {
+    stretch_of(line.strip_prefix(word)?)
+}
+
+/// What a line says that gives a stretch.
+fn stretch_line(line: &str) -> Option<FrontLine> {
+    if let Some(note) = stretch_behind(line, "note ") {
+        return Some(FrontLine::Note(note));
+    }
+    if let Some(area) = stretch_behind(line, "area ") {
+        return Some(FrontLine::Area(area));
+    }
+    Some(FrontLine::List(stretch_behind(line, "frames ")?))
+}
+
+/// Where that is of which a line begins with a word.
+fn merged_behind(line: &str, word: &str) -> Option<MergedLine> {
+    merged_of(line.strip_prefix(word)?)
+}
+
 /// What a line in front of a map says.
 fn front_line_of(line: &str) -> Option<FrontLine> {
-    if let Some(note) = line.strip_prefix("note ") {
-        return Some(FrontLine::Note(stretch_of(note)?));
+    if let Some(merged) = merged_behind(line, "merged ") {
+        return Some(FrontLine::Merged(merged));
     }
-    if let Some(area) = line.strip_prefix("area ") {
-        return Some(FrontLine::Area(stretch_of(area)?));
+    if let Some(frame) = merged_behind(line, "frame ") {
+        return Some(FrontLine::Frame(frame));
     }
-    Some(FrontLine::Merged(merged_of(line.strip_prefix("merged ")?)?))
+    stretch_line(line)
 }
 
 /// Whether a text begins with a line that stands in front of a map.
 fn has_front_line(text: &[u8]) -> bool {
-    text.starts_with(b"note ") || text.starts_with(b"area ") || text.starts_with(b"merged ")
+    if text.starts_with(b"note ") || text.starts_with(b"area ") {
+        return true;
+    }
+    text.starts_with(b"merged ") || text.starts_with(b"frames ") || text.starts_with(b"frame ")
 }
 
 /// What the first line of a text says, and the text behind it.
@@ -98,6 +129,8 @@ impl Front {
             FrontLine::Note(note) => self.notes.push(note)?,
             FrontLine::Area(area) => self.areas.push(area)?,
             FrontLine::Merged(merged) => self.merged.push(merged)?,
+            FrontLine::List(list) => self.list = Some(list),
+            FrontLine::Frame(frame) => self.frames.push(frame)?,
         }
         Ok(())
     }
@@ -109,6 +142,8 @@ fn read_front<'t>(alloc: Global, text: &'t [u8]) -> Result<(Front, u64, &'t [u8]
         notes: Vec::new(alloc),
         areas: Vec::new(alloc),
         merged: Vec::new(alloc),
+        list: None,
+        frames: Vec::new(alloc),
     };
     let mut rest = text;
     for count in 0..text.len() as u64 {
@@ -140,6 +175,8 @@ fn certificate_of(alloc: Global, front: Front, map: LinkMap) -> Result<Certifica
         notes: front.notes,
         areas: front.areas,
         merged: front.merged,
+        list: front.list,
+        frames: front.frames,
         names: linkers_names(alloc, map.symbols)?,
         got,
     })

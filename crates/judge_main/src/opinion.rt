@@ -40,11 +40,11 @@ fn subject(reason: Reason) -> &'static str
     ensures { result.now ≡ subject reason }
 {
     match reason {
-        Reason::Unused => "--gc-sections",
         Reason::Unreadable => "an input that can't be read",
         Reason::Objects => "objects that leave open what is right",
         Reason::Arrays => "an array of functions that may have gaps",
-        Reason::Edited => "strings or frames that the linker edited",
+        Reason::Edited => "strings that the linker edited",
+        Reason::Records => "call frames that can't be judged",
         Reason::Joined => "a line for a property note",
         Reason::Mixed => "sections of one name that are of several runs",
         Reason::Fields => "fields that overlap or leave their section",

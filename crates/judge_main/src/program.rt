@@ -62,7 +62,7 @@ fn answer_given<O: Write, E: Write>(
         → Says words (files_of given.now.files.items) given.now.image.items
         (certificate_of given.now.certificate) result (O.contents out.old) (O.contents out.new) }
     ensures right { (words : List (List ℕ)) → IsSpokenBy words spoken.now → IsSaid result.status
-        → (plan : ForeignPlan) → IsAsked words plan → plan.collects ≡ false
+        → (plan : ForeignPlan) → IsAsked words plan
         → (result.status ≡ 0) ↔ IsShown (link_of (files_of given.now.files.items) plan
         given.now.image.items (certificate_of given.now.certificate)) }
     ensures fault { 2 ≤ result.status → result.status ≤ 4

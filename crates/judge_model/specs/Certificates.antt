@@ -17,8 +17,9 @@ pub record NameRow : Type 0 where
   pub name : List ℕ
 
 -- the objects in loading order; the sections with SHF_ALLOC that are left out; the addresses of sections and of common
--- blocks; the notes that the linker made; the areas of memory in which it put merged strings and constants, and where each of
--- these is; the names that it or its script defines; the address of the GOT, where code asks for it
+-- blocks; the notes that the linker made; the areas of memory in which it put merged strings and constants and call frames; where
+-- each string and constant is; the list of call frames, and where each record of these is; the names that it or its script defines;
+-- the address of the GOT, where code asks for it
 pub record CertificateRecord : Type 0 where
   pub objects : List ObjectRow
   pub drops : List DropLine
@@ -27,6 +28,8 @@ pub record CertificateRecord : Type 0 where
   pub notes : List StretchLine
   pub areas : List StretchLine
   pub merged : List MergedLine
+  pub list : Option StretchLine
+  pub frames : List MergedLine
   pub names : List NameRow
   pub got : Option ℕ
 
@@ -43,6 +46,8 @@ certificate_of c = record {
   notes = c.notes.items;
   areas = c.areas.items;
   merged = c.merged.items;
+  list = c.list;
+  frames = c.frames.items;
   names = map name_row c.names.items;
   got = c.got;
 }
@@ -66,6 +71,7 @@ pub record IsInOrder (c : CertificateRecord) : Type 0 where
   pub notes : Ascends StretchBefore c.notes
   pub areas : Ascends StretchBefore c.areas
   pub merged : Ascends MergedBefore c.merged
+  pub frames : Ascends MergedBefore c.frames
   pub names : Ascends NameRowBefore c.names
 
 -- a section has a drop line; it has a place line
@@ -82,7 +88,7 @@ is_row_of name row = bytes_eq row.name name
 abbrev pub value_of_name : List NameRow → List ℕ → Option ℕ
 value_of_name rows name = option_map (λ row. row.value) (find (is_row_of name) rows)
 
--- the address of what a section has at an offset, by the line of the string or constant that it is in; None without one
+-- the address of what a section has at an offset, by the line of the string, constant or record that it is in; None without one
 abbrev pub is_line_with : ℕ → ℕ → ℕ → MergedLine → Bool
 is_line_with object section offset m =
     (m.object == object && m.section == section) && (nat_le m.offset offset && nat_lt offset (m.offset + m.size))

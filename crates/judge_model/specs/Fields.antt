@@ -22,7 +22,7 @@ use Rattle.elf_model.specs.declared.records.Rela.{Rela}
 use Rattle.elf_model.specs.declared.records.Symbol.{Symbol}
 use Rattle.elf_model.specs.declared.thing.Thing.{Thing}
 use Rattle.judge_model.specs.Links.{ForeignLink, objects_of, relocations_of, sections_of}
-use Rattle.judge_model.specs.Means.{address_of, definition_of, meant}
+use Rattle.judge_model.specs.Means.{address_of, definition_of, is_in_list, meant}
 use Rattle.judge_model.specs.Memory.{Holds}
 use Rattle.judge_model.specs.Placed.{things_of}
 use Rattle.judge_model.specs.Rewrites.{Instruction, front_bytes, front_of, instruction_in, rewrite_of, rewritings}
@@ -92,19 +92,23 @@ field_address l r = unwrap_or (address_of l r.object r.section) 0 + r.entry.r_of
 abbrev pub size_of : ForeignLink → Relocation → ℕ
 size_of l r = unwrap_or (option_map meaning_size (definition_of l r.symbol)) 0
 
-abbrev pub letters : ForeignLink → Relocation → ℕ → ℕ → Letters
-letters l r v at = record {
+-- the letters of a relocation whose symbol has a value, with its slot and its field at addresses
+abbrev pub letters_at : ForeignLink → Relocation → ℕ → ℕ → ℕ → Letters
+letters_at l r v at address = record {
   s = v;
   a = r.entry.r_addend;
-  p = field_address l r;
+  p = address;
   slot = at;
   got = got_of l;
   z = size_of l r;
   t = thread_offset l.image v;
 }
 
+abbrev pub value_at : ForeignLink → Relocation → Kind → ℕ → ℕ → ℕ → ℕ
+value_at l r k v at address = modulo_64 (whole_value k.formula (letters_at l r v at address))
+
 abbrev pub field_value : ForeignLink → Relocation → Kind → ℕ → ℕ → ℕ
-field_value l r k v at = modulo_64 (whole_value k.formula (letters l r v at))
+field_value l r k v at = value_at l r k v at (field_address l r)
 
 -- Slots.
 
@@ -129,10 +133,13 @@ pub record IsSlot (l : ForeignLink) (at value : ℕ) : Type 0 where
   pub outside : (p q : Placed) (a : ℕ) → IsBetween (sections_of l) p q a → Covers (slot_thing at) a → ⊥
   pub holds : Holds l.image at (le_bytes 8 value)
 
--- a field holds the value of its formula, in range, with the slot at an address where the formula has one
-pub record HoldsValue (l : ForeignLink) (r : Relocation) (k : Kind) (v at : ℕ) : Type 0 where
-  pub fits : IsInRange k.range (8 * k.width) (field_value l r k v at)
-  pub holds : Holds l.image (field_address l r) (le_bytes k.width (field_value l r k v at))
+-- a field at an address holds the value of its formula, in range, with the slot at an address where the formula has one
+pub record HoldsValueAt (l : ForeignLink) (r : Relocation) (k : Kind) (v at address : ℕ) : Type 0 where
+  pub fits : IsInRange k.range (8 * k.width) (value_at l r k v at address)
+  pub holds : Holds l.image address (le_bytes k.width (value_at l r k v at address))
+
+abbrev pub HoldsValue : ForeignLink → Relocation → Kind → ℕ → ℕ → Type 0
+HoldsValue l r k v at = HoldsValueAt l r k v at (field_address l r)
 
 -- a relocation has its slot at an address
 pub record HasSlotAt (l : ForeignLink) (r : Relocation) (at : ℕ) : Type 0 where
@@ -224,9 +231,12 @@ pub record IsUnchanged (l : ForeignLink) (r : Relocation) : Type 0 where
   pub front : 0 < front_of r.entry → Holds l.image (place_address l r) (front_bytes (instruction_of (objects_of l) r))
   pub field : IsSomeAnd (kind_of r) (HoldsField l r)
 
--- F5. The place of a relocation is right.
-abbrev pub IsFieldRight : ForeignLink → Relocation → Type 0
-IsFieldRight l r = IsUnchanged l r ⊎ Any (IsRewritten l r) rewritings
+-- F5. The place of a relocation is right, of one that isn't in the list of call frames (F8).
+abbrev pub IsPlaceRight : ForeignLink → Relocation → Type 0
+IsPlaceRight l r = IsUnchanged l r ⊎ Any (IsRewritten l r) rewritings
+
+pub record IsFieldRight (l : ForeignLink) (r : Relocation) : Type 0 where
+  pub right : is_in_list l r ≡ false → IsPlaceRight l r
 
 -- F7. All bytes of a section outside of places are the input's, and 0 where the input has none.
 pub record HoldsRest (l : ForeignLink) (q : Placed) : Type 0 where

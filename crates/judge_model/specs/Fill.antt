@@ -1,4 +1,4 @@
--- F10. What memory has outside of headers, sections, common blocks, slots, notes, merged strings and constants: fill. Among the sections of .init and of
+-- F10. What memory has outside of headers, sections, common blocks, slots, notes, merged strings and constants, call frames: fill. Among the sections of .init and of
 -- .fini it is executed, so there it is whole instructions that do nothing. Elsewhere among code it is such instructions and
 -- breakpoints, and zeros behind them; and zeros where nothing is executed.
 use Rattle.std.specs.Prelude.{◌≡◌, ◌⊎◌, ℕ, zero, suc, ◌+◌, ◌-◌, ◌<◌, ◌≤◌, ◌==◌, Bool, true, false, cond, List, [], ◌∷◌, Option, None, Some, All, Any, Contains, bit_and, codes, drop, find, length, nat_eq, nat_le}

@@ -1,7 +1,7 @@
 -- F11 and F12. The headers of an image: what the system asks of them to map it, and that they are true (System V gABI 4, "ELF
 -- Header", 5, "Program Header"; PT_GNU_STACK, PT_GNU_RELRO and PT_GNU_PROPERTY are those of GNU; pages and tails are those
 -- of Linux on x86-64).
-use Rattle.std.specs.Prelude.{◌≡◌, ◌⊎◌, ℕ, ◌+◌, ◌-◌, ◌*◌, ◌/◌, ◌%◌, ◌^◌, ◌<◌, ◌≤◌, ◌==◌, ◌&&◌, ◌||◌, Bool, true, false, not, List, [], ◌∷◌, All, AllPairs, Any, bit_and, codes, count_by, length, slice_index, take, unwrap_or}
+use Rattle.std.specs.Prelude.{◌≡◌, ◌⊎◌, ℕ, ◌+◌, ◌-◌, ◌*◌, ◌/◌, ◌%◌, ◌^◌, ◌<◌, ◌≤◌, ◌==◌, ◌&&◌, ◌||◌, Bool, true, false, not, List, [], ◌∷◌, All, AllPairs, Any, bit_and, codes, count_by, filter, length, map, slice_index, take, unwrap_or}
 use Rattle.std.specs.List.{list_any}
 use Rattle.std.specs.Str.{bytes_eq}
 use Rattle.elf_model.specs.Image.MemoryImage.{ShareNoPage, loads, program_headers}
@@ -15,6 +15,7 @@ use Rattle.elf_model.specs.declared.records.ProgramHeader.{ProgramHeader}
 use Rattle.elf_model.specs.declared.records.SectionHeader.{SectionHeader}
 use Rattle.judge_model.specs.Links.{ForeignLink, objects_of, placed_of}
 use Rattle.judge_model.specs.Plans.{in_script}
+use Rattle.judge_model.specs.declared.certificate.StretchLine.{StretchLine}
 
 -- The file header.
 
@@ -71,6 +72,19 @@ is_single_type t = list_any (λ s. s == t) single_types
 abbrev pub is_of_type : ℕ → ProgramHeader → Bool
 is_of_type t h = h.p_type == t
 
+-- tables of call frames, and where the headers say that these are
+abbrev pub has_frame_table : List ℕ → Bool
+has_frame_table image = list_any (is_of_type pt_gnu_eh_frame) (program_headers image)
+
+abbrev pub frame_tables : List ℕ → List ProgramHeader
+frame_tables image = filter (is_of_type pt_gnu_eh_frame) (program_headers image)
+
+abbrev pub table_stretch : ProgramHeader → StretchLine
+table_stretch h = record { address = h.p_vaddr; size = h.p_memsz }
+
+abbrev pub table_stretches : List ℕ → List StretchLine
+table_stretches image = map table_stretch (frame_tables image)
+
 pub record IsSingle (hs : List ProgramHeader) (t : ℕ) : Type 0 where
   pub count : count_by (is_of_type t) hs ≤ 1
 
@@ -106,12 +120,13 @@ IsPartOf h g =
     × (h.p_vaddr + h.p_filesz ≤ g.p_vaddr + g.p_filesz)
     × (h.p_offset + g.p_vaddr ≡ g.p_offset + h.p_vaddr)
 
--- PT_GNU_RELRO may reach behind the file's part, but not behind the segment's last page, where a C library could protect nothing
+-- PT_GNU_RELRO may reach behind the file's part, but not behind the segment's last page, where a C library could protect nothing. No
+-- program reads its place in the file, which may be 0.
 abbrev pub BeginsIn : ProgramHeader → ProgramHeader → Type 0
 BeginsIn h g =
     (g.p_vaddr ≤ h.p_vaddr)
     × (h.p_vaddr ≤ g.p_vaddr + g.p_memsz)
-    × (h.p_offset + g.p_vaddr ≡ g.p_offset + h.p_vaddr)
+    × ((h.p_offset ≡ 0) ⊎ (h.p_offset + g.p_vaddr ≡ g.p_offset + h.p_vaddr))
     × ((h.p_vaddr + h.p_memsz) / 4096 ≤ (g.p_vaddr + g.p_memsz + 4095) / 4096)
 
 pub record IsTrueOf (hs : List ProgramHeader) (h : ProgramHeader) : Type 0 where

@@ -1,6 +1,9 @@
 pub mod Certificates
 pub mod Fields
 pub mod Fill
+pub mod FrameCode
+pub mod FrameTables
+pub mod Frames
 pub mod Headers
 pub mod Kept
 pub mod Links

@@ -73,6 +73,13 @@ is_merged l p = is_mergeable p && not (is_placed l p)
 abbrev pub merged_of : ForeignLink → List Piece
 merged_of l = filter (is_merged l) (pieces_of l)
 
+-- those of call frames that it made one list of
+abbrev pub is_framed : ForeignLink → Piece → Bool
+is_framed l p = is_frames p && not (is_placed l p)
+
+abbrev pub framed_of : ForeignLink → List Piece
+framed_of l = filter (is_framed l) (pieces_of l)
+
 -- the plain sections at the addresses of their lines, the common blocks that have a line at theirs, and both
 abbrev pub sections_of : ForeignLink → List Placed
 sections_of l = placed_by l.certificate.places (plain_pieces l)

@@ -92,11 +92,21 @@ abbrev pub local_value : ForeignLink → Relocation → Option ℕ
 local_value l r =
     cond (r.symbol.number == 0) (Some 0) (cond (is_undefined r.symbol.entry) None (defined_value l r))
 
+-- a relocation is one of call frames that have no address of their own, as the linker made one list of all
+abbrev pub has_address : ForeignLink → ℕ → ℕ → Bool
+has_address l object number = is_some (address_of l object number)
+
+abbrev pub is_of_frames : Relocation → Bool
+is_of_frames r = bytes_eq r.name (codes ".eh_frame")
+
+abbrev pub is_in_list : ForeignLink → Relocation → Bool
+is_in_list l r = is_of_frames r && not (has_address l r.object r.section)
+
 -- what a symbol means to a relocation that names it: frames that aren't edited have 0 for the LOCAL symbols of what the image
 -- has not
 abbrev pub is_frame_of_missing : ForeignLink → Relocation → Bool
 is_frame_of_missing l r =
-    bytes_eq r.name (codes ".eh_frame") && not (is_some (address_of l r.symbol.object r.symbol.entry.st_shndx))
+    (is_of_frames r && has_address l r.object r.section) && not (has_address l r.symbol.object r.symbol.entry.st_shndx)
 
 abbrev pub local_meant : ForeignLink → Relocation → Option ℕ
 local_meant l r = option_or (local_value l r) (cond (is_frame_of_missing l r && not (is_undefined r.symbol.entry)) (Some 0) None)

@@ -1,6 +1,6 @@
 -- F3. Where sections and common blocks are: aligned, apart, in memory with their rights, and in the runs that programs walk
 -- over. Any layout and any addresses serve, but for those that the words give (System V gABI 5, "Program Loading").
-use Rattle.std.specs.Prelude.{◌≡◌, ◌⊎◌, ℕ, ◌+◌, ◌*◌, ◌%◌, ◌==◌, ◌&&◌, Bool, true, false, not, cond, List, ◌++◌, None, All, AllPairs, Any, IfSome, bit_and, filter, find, map, nat_le, ◌-◌, ◌^◌, ◌≤◌, ◌||◌, is_some}
+use Rattle.std.specs.Prelude.{◌≡◌, ◌⊎◌, ℕ, ◌+◌, ◌*◌, ◌%◌, ◌==◌, ◌&&◌, Bool, true, false, not, cond, List, [], ◌∷◌, ◌++◌, Option, None, Some, All, AllPairs, Any, IfSome, bit_and, filter, find, map, nat_le, ◌-◌, ◌^◌, ◌≤◌, ◌||◌, is_some}
 use Rattle.elf_model.specs.Image.MemoryImage.{Encloses, first_address, loads}
 use Rattle.elf_model.specs.Image.RightLink.{HasCommonLine, facts_of_piece, facts_of_row}
 use Rattle.elf_model.specs.Inputs.Records.{file_header}
@@ -12,6 +12,7 @@ use Rattle.elf_model.specs.declared.records.ProgramHeader.{ProgramHeader}
 use Rattle.elf_model.specs.declared.records.SectionHeader.{SectionHeader}
 use Rattle.elf_model.specs.declared.thing.Thing.{Thing}
 use Rattle.judge_model.specs.Certificates.{IsInOrder}
+use Rattle.judge_model.specs.Headers.{table_stretches}
 use Rattle.judge_model.specs.Links.{ForeignLink, objects_of, pieces_of, placed_of, plain_pieces, sections_of}
 use Rattle.judge_model.specs.Memory.{IsInReach}
 use Rattle.judge_model.specs.Plans.{Start}
@@ -43,17 +44,23 @@ stretch_thing n = record { at = n.address; size = n.size; align = 4; rights = 4;
 abbrev pub made_things : ForeignLink → List Thing
 made_things l = header_things l.image ++ map stretch_thing (l.certificate.notes ++ l.certificate.areas)
 
--- all of it: headers, notes, areas of merged strings and constants, sections and common blocks
+-- all of it: headers, notes, areas of merged strings and constants and of call frames, sections and common blocks
 abbrev pub things_of : ForeignLink → List Thing
 things_of l = made_things l ++ map thing_of (placed_of l)
 
 abbrev pub stretch_of : MergedLine → StretchLine
 stretch_of m = record { address = m.address; size = m.size }
 
--- what its bytes are of: the same, but of an area the strings and constants in it
+-- what its bytes are of: the same, but of an area the strings and constants in it, the list of call frames, and the tables of it
+abbrev pub listed : Option StretchLine → List StretchLine
+listed None = []
+listed (Some s) = s ∷ []
+
 abbrev pub explained_things : ForeignLink → List Thing
 explained_things l =
-    (header_things l.image ++ map stretch_thing (l.certificate.notes ++ map stretch_of l.certificate.merged))
+    (header_things l.image
+    ++ map stretch_thing
+    (l.certificate.notes ++ (map stretch_of l.certificate.merged ++ (listed l.certificate.list ++ table_stretches l.image))))
     ++ map thing_of (placed_of l)
 
 -- Each plain section has the line that tells its size and name, in order. Each common block has the line of its name, but

@@ -19,13 +19,14 @@ pub record Start : Type 0 where
   pub name : List ℕ
   pub address : ℕ
 
--- the profile's part, of which the entry is that of -e, else of a script's ENTRY, else the profile's; --gc-sections; -z
+-- the profile's part, of which the entry is that of -e, else of a script's ENTRY, else the profile's; --gc-sections; --eh-frame-hdr; -z
 -- muldefs; -N, by which memory may be written and executed; -z execstack or its no, if one is there; the bits of -z ibt,
 -- shstk and lam; -Ttext-segment= and --image-base=; the output sections that have an address; whether all names may be
 -- missing (-s) and those that are LOCAL (-x); the script
 pub record ForeignPlan : Type 0 where
   pub plan : Plan
   pub collects : Bool
+  pub tables : Bool
   pub takes_first : Bool
   pub writes_code : Bool
   pub executes_stack : Option Bool

@@ -10,9 +10,11 @@ use Rattle.elf_model.specs.Link.Meaning.{object_meaning}
 use Rattle.elf_model.specs.declared.records.ProgramHeader.{ProgramHeader}
 use Rattle.judge_model.specs.Fields.{AreFieldsApart, HoldsRest, IsFieldRight, IsInside, IsWholeInstruction}
 use Rattle.judge_model.specs.Fill.{IsFilled}
-use Rattle.judge_model.specs.Headers.{AreHeadersRight, pt_gnu_eh_frame}
+use Rattle.judge_model.specs.Headers.{AreHeadersRight, has_frame_table}
 use Rattle.judge_model.specs.Kept.{IsKept}
-use Rattle.judge_model.specs.Links.{ForeignLink, is_frames, is_mergeable, is_placed, is_property, is_relocated, objects_of, pieces_of, placed_of, relocations_of}
+use Rattle.judge_model.specs.Frames.{AreFramesReadable, AreFramesRight, has_own_frames}
+use Rattle.judge_model.specs.FrameTables.{HasRightTable}
+use Rattle.judge_model.specs.Links.{ForeignLink, is_mergeable, is_placed, is_property, is_relocated, objects_of, pieces_of, placed_of, relocations_of}
 use Rattle.judge_model.specs.Merged.{AreMergedRight}
 use Rattle.judge_model.specs.Loaded.{AreReadable}
 use Rattle.judge_model.specs.Loaded as loaded
@@ -39,7 +41,7 @@ EntersRight l =
     IsSomeAnd (chosen (objects_of l) l.plan.plan.entry) (λ s. is_in_thread_section (objects_of l) s ≡ false)
     × IsSomeAnd (object_meaning (objects_of l) l.plan.plan.entry) (λ m. value_of l m ≡ Some (file_header l.image).e_entry)
 
--- The requirements by number. Code that linkers rewrite (F6) is part of F5; that on call frames (F8) asks that nothing is edited.
+-- The requirements by number. Code that linkers rewrite (F6) is part of F5.
 abbrev pub Holds : Requirement → ForeignLink → Type 0
 Holds F1 l = loaded.IsLoaded l.files l.plan.plan l.certificate.objects
 Holds F2 l = IsKept l
@@ -48,7 +50,7 @@ Holds F4 l = AreNamesRight l × AreMergedRight l
 Holds F5 l = All (IsFieldRight l) (relocations_of l)
 Holds F6 l = Unit {0}
 Holds F7 l = All (HoldsRest l) (placed_of l)
-Holds F8 l = Unit {0}
+Holds F8 l = AreFramesRight l × HasRightTable l
 Holds F9 l = IsThreadBlockRight l.image (placed_of l)
 Holds F10 l = AreNotesRight l × IsFilled l
 Holds F11 l = EntersRight l
@@ -56,7 +58,7 @@ Holds F12 l = AreHeadersRight l
 Holds F13 l = HasTables l.image → AreTablesRight l
 
 -- Sections that linkers edit, in a way that isn't judged: strings and constants that may be merged, but that relocations change or
--- whose section isn't one of read-only data by its name; and call frames. A line that says where one is unedited has it judged.
+-- whose section isn't one of read-only data by its name. A line that says where one is unedited has it judged.
 abbrev pub constant_names : List (List ℕ)
 constant_names = codes ".rodata" ∷ codes ".lrodata" ∷ []
 
@@ -67,7 +69,7 @@ abbrev pub is_unmergeable : ForeignLink → Piece → Bool
 is_unmergeable l p = is_mergeable p && (is_relocated l p || not (is_of_constants p))
 
 abbrev pub is_edited : ForeignLink → Piece → Bool
-is_edited l p = not (is_placed l p) && (is_unmergeable l p || is_frames p)
+is_edited l p = not (is_placed l p) && is_unmergeable l p
 
 abbrev pub is_of_array : Piece → Bool
 is_of_array p = list_any (is_gathered_by p.name) array_names
@@ -82,16 +84,17 @@ is_lto o = list_any (λ h. starts_with nat_eq (name_of_section o.bytes h) (codes
 abbrev pub IsJoined : ForeignLink → Piece → Type 0
 IsJoined l p = is_property p ≡ true → is_placed l p ≡ false
 
-abbrev pub IsNoFrameTable : ProgramHeader → Type 0
-IsNoFrameTable h = ¬ (h.p_type ≡ pt_gnu_eh_frame)
+-- a table is of frames of which the linker made a list
+abbrev pub HasNoOtherTable : ForeignLink → Type 0
+HasNoOtherTable l = has_own_frames l ≡ true → has_frame_table l.image ≡ false
 
 -- What isn't judged: links whose inputs leave open what is right. Files, archives and objects that can't be read, as those of
 -- other machines or with IFUNC symbols; objects for link-time optimization; two strong definitions of a name, unless the words ask
 -- for the first; a common symbol that isn't sound; fields that leave their section, and places that overlap; instructions that
 -- linkers may rewrite with a symbol inside; arrays of functions that gaps would break; names for where an output name begins and
--- ends whose sections are not of one run; a line for a property note, which linkers join; and, until they are judged too, strings
--- and constants that may be merged whose section relocations change, or isn't one of read-only data by its name, and call frames,
--- without a line that says where they are unedited, and a table of frames.
+-- ends whose sections are not of one run; a line for a property note, which linkers join; call frames that can't be read, and a table
+-- of such as are as they came; and, until they are judged too, strings and constants that may be merged whose section relocations
+-- change, or isn't one of read-only data by its name, without a line that says where they are unedited.
 pub record IsJudged (l : ForeignLink) : Type 0 where
   pub compiled : All (λ o. is_lto o ≡ false) (objects_of l)
   pub readable : AreReadable l.files l.plan.plan
@@ -102,9 +105,10 @@ pub record IsJudged (l : ForeignLink) : Type 0 where
   pub apart : AllPairs AreFieldsApart (relocations_of l)
   pub whole : All (IsWholeInstruction (objects_of l)) (relocations_of l)
   pub unedited : All (λ p. is_edited l p ≡ false) (pieces_of l)
+  pub framed : AreFramesReadable l
   pub joined : All (IsJoined l) (pieces_of l)
   pub unmixed : All (IsUnmixed l) l.certificate.names
-  pub untabled : All IsNoFrameTable (program_headers l.image)
+  pub untabled : HasNoOtherTable l
 
 -- A right link by its certificate; and a right link: one for which there is such a certificate.
 pub record IsShown (l : ForeignLink) : Type 0 where

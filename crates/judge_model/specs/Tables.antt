@@ -154,23 +154,24 @@ IsLocalOf l name e s =
 abbrev pub IsLocalEntry : ForeignLink → List ℕ → entry.Symbol → Type 0
 IsLocalEntry l name e = (binding e ≡ STB_LOCAL) × Any (IsLocalOf l name e) (all_symbols (objects_of l))
 
--- it names a script's value; it names nothing, as no object defines what a WEAK symbol asks for, or as the linker made the name;
--- it stands for a file or a section
+-- it names a script's value; it names nothing, as no object defines what a WEAK symbol asks for, whose entry may be LOCAL, or as the
+-- linker made the name; it stands for a file or a section
 abbrev pub IsScriptEntry : ForeignLink → List ℕ → entry.Symbol → Type 0
 IsScriptEntry l name e = (is_by_script l name ≡ true) × (value_of_name l.certificate.names name ≡ Some e.st_value)
 
 pub record IsMissing (l : ForeignLink) (name : List ℕ) (e : entry.Symbol) : Type 0 where
   pub undefined : is_undefined e ≡ true
   pub value : e.st_value ≡ 0
-  pub weak : is_weak e ≡ true
+  pub weak : (is_weak e ≡ true) ⊎ (binding e ≡ STB_LOCAL)
   pub none : object_or_linker l name ≡ None
 
 -- The names that linkers make of themselves and no object defines: those of dynamic linking, and bounds of sections that the
--- image hasn't. They are LOCAL, and whatever value they have is nobody's.
+-- image hasn't; and those that compilers give the ends of the list of call frames. They are LOCAL, and whatever value they have is
+-- nobody's.
 abbrev pub made_names : List (List ℕ)
 made_names =
     codes "_DYNAMIC" ∷ codes "_PROCEDURE_LINKAGE_TABLE_" ∷ codes "_TLS_MODULE_BASE_" ∷ codes "__GNU_EH_FRAME_HDR" ∷ codes "__dso_handle"
-    ∷ codes "__rela_iplt_start" ∷ codes "__rela_iplt_end" ∷ []
+    ∷ codes "__rela_iplt_start" ∷ codes "__rela_iplt_end" ∷ codes "__EH_FRAME_BEGIN__" ∷ codes "__FRAME_END__" ∷ []
 
 abbrev pub is_made_name : List ℕ → Bool
 is_made_name name = list_any (bytes_eq name) made_names || (is_start_name name || is_stop_name name)
@@ -179,7 +180,7 @@ pub record IsMade (l : ForeignLink) (name : List ℕ) (e : entry.Symbol) : Type 
   pub known : is_made_name name ≡ true
   pub none : object_or_linker l name ≡ None
   pub binding_ : binding e ≡ STB_LOCAL
-  pub type_ : symbol_type e ≡ STT_NOTYPE
+  pub type_ : symbol_type e ≤ STT_OBJECT
   pub size : e.st_size ≡ 0
 
 pub record IsFile (e : entry.Symbol) : Type 0 where

@@ -32,17 +32,12 @@ pub record IsBlockOf (test : Piece → Bool) (qs : List Placed) (h : ProgramHead
   pub end : EndsAt h (end_of_pieces test qs)
   pub align : h.p_align ≡ alignment_of test (map (λ q. q.piece) qs)
 
--- its initial bytes are where a segment has them, at the same place of the file
+-- its initial bytes are where a segment has them, at the same place of the file; where it has none its place there says nothing
 abbrev pub HoldsInitial : ProgramHeader → ProgramHeader → Type 0
 HoldsInitial h g = (h.p_offset + g.p_vaddr ≡ g.p_offset + h.p_vaddr) × Encloses g h.p_vaddr h.p_filesz
 
--- it has none, and is in no segment, so that its place in the file says nothing
-pub record IsNowhere (hs : List ProgramHeader) (h : ProgramHeader) : Type 0 where
-  pub none : h.p_filesz ≡ 0
-  pub outside : All (λ g. ¬ Encloses g h.p_vaddr 0) hs
-
 abbrev pub HasInitial : List ProgramHeader → ProgramHeader → Type 0
-HasInitial hs h = Any (HoldsInitial h) hs ⊎ IsNowhere hs h
+HasInitial hs h = Any (HoldsInitial h) hs ⊎ (h.p_filesz ≡ 0)
 
 -- the block is that of all thread-local sections, or of those that aren't empty
 abbrev pub IsSomeBlock : List Placed → ProgramHeader → Type 0

@@ -7,12 +7,13 @@ use Rattle.std.specs.Str.{bytes_eq}
 use Rattle.elf_model.specs.Inputs.Command.{AllFollow, Directory, Entry, GroupEnd, GroupStart, Input, Library, Output, Path, Phrase, Strip, Undefined, WholeEnd, WholeStart, address_of, after, is_empty, is_open, number_of, plan_of_phrases}
 use Rattle.judge_model.specs.Plans.{ForeignPlan, Start}
 
--- what a word says, with its value: a phrase of the profile's; --gc-sections or its no; that the first of two definitions
--- counts; that code may be written, the stack executed; bits of the property note; where the first segment begins; where an
--- output section does; that names are missing; or nothing that is judged
+-- what a word says, with its value: a phrase of the profile's; --gc-sections or its no; --eh-frame-hdr, a table of call frames, or
+-- its no; that the first of two definitions counts; that code may be written, the stack executed; bits of the property note; where
+-- the first segment begins; where an output section does; that names are missing; or nothing that is judged
 pub data Says : Type 0 where
   Profile : Phrase → Says
   Collects : Bool → Says
+  Tables : Bool → Says
   TakesFirst : Says
   WritesCode : Says
   ExecutesStack : Bool → Says
@@ -150,8 +151,8 @@ rows =
     ∷ row (codes "--no-as-needed") (Alone Nothing)
     ∷ row (codes "--push-state") (Alone Nothing)
     ∷ row (codes "--pop-state") (Alone Nothing)
-    ∷ row (codes "--eh-frame-hdr") (Alone Nothing)
-    ∷ row (codes "--no-eh-frame-hdr") (Alone Nothing)
+    ∷ row (codes "--eh-frame-hdr") (Alone (Tables true))
+    ∷ row (codes "--no-eh-frame-hdr") (Alone (Tables false))
     ∷ row (codes "--no-relax") (Alone Nothing)
     ∷ row (codes "--relax") (Alone Nothing)
     ∷ row (codes "--emit-relocs") (Alone Nothing)
@@ -212,6 +213,10 @@ abbrev pub collects_in : Says → Option Bool
 collects_in (Collects b) = Some b
 collects_in _ = None
 
+abbrev pub tables_in : Says → Option Bool
+tables_in (Tables b) = Some b
+tables_in _ = None
+
 abbrev pub stack_in : Says → Option Bool
 stack_in (ExecutesStack b) = Some b
 stack_in _ = None
@@ -250,6 +255,7 @@ abbrev pub plan_said : List Says → ForeignPlan
 plan_said ss = record {
   plan = plan_of_phrases (phrases_of ss);
   collects = unwrap_or (last_of collects_in ss) false;
+  tables = unwrap_or (last_of tables_in ss) false;
   takes_first = list_any is_takes_first ss;
   writes_code = list_any is_writes_code ss;
   executes_stack = last_of stack_in ss;

@@ -4,9 +4,11 @@
 #![tactic(auto)]
 
 mod certificate;
+mod frame_record;
 mod judgement;
 mod rewriting;
 
 pub use certificate::{Certificate, MergedLine, NameLine, StretchLine};
+pub use frame_record::{FrameRecord, FrameRow};
 pub use judgement::{Judgement, Requirement};
 pub use rewriting::Rewriting;

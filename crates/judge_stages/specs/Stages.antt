@@ -8,7 +8,7 @@ use Rattle.elf_model.specs.declared.thing.Thing.{Thing}
 use Rattle.check_link.specs.Views.{placed_views}
 use Rattle.check_link.specs.declared.things.Placed.{Placed}
 use Rattle.judge_model.specs.Certificates.{is_left_out}
-use Rattle.judge_model.specs.Links.{ForeignLink, is_mergeable, is_property, objects_of, pieces_of, placed_of, plain_pieces, sections_of}
+use Rattle.judge_model.specs.Links.{ForeignLink, is_frames, is_mergeable, is_property, objects_of, pieces_of, placed_of, plain_pieces, sections_of}
 use Rattle.judge_model.specs.Placed.{things_of}
 use Rattle.judge_model.specs.declared.certificate.StretchLine.{StretchLine}
 
@@ -17,15 +17,21 @@ abbrev pub key_of : PlaceRow → DropLine
 key_of row = record { object = row.object; section = row.section }
 
 -- a section isn't left out; it has a place line, given the sections that have one, or is neither one that linkers merge nor one of
--- notes of properties; and it is one that they merged
+-- call frames or of notes of properties; it is one that they merged; and one of call frames in their list
 abbrev pub is_there : List DropLine → Piece → Bool
 is_there drops p = not (is_left_out drops p.object p.section)
 
 abbrev pub is_plain_by : List DropLine → Piece → Bool
-is_plain_by keys p = is_left_out keys p.object p.section || not (is_mergeable p || is_property p)
+is_plain_by keys p = is_left_out keys p.object p.section || not (is_mergeable p || (is_frames p || is_property p))
 
 abbrev pub is_merged_by : List DropLine → Piece → Bool
 is_merged_by keys p = is_mergeable p && not (is_left_out keys p.object p.section)
+
+abbrev pub is_framed_by : List DropLine → Piece → Bool
+is_framed_by keys p = is_frames p && not (is_left_out keys p.object p.section)
+
+abbrev pub has_own_by : List DropLine → Piece → Bool
+has_own_by keys p = is_frames p && is_left_out keys p.object p.section
 
 -- its objects are loaded, and the sections that the image has are known
 pub record IsLoadedClaim (l : ForeignLink) (os : List LoadedObject) (drops : List DropLine) (ps : List Piece) : Type 0 where

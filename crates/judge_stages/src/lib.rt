@@ -17,6 +17,8 @@ mod stretches;
 pub use bound_claim::BoundClaim;
 pub use claim::Claim;
 pub use lines::borrowed_commons;
-pub use loaded_claim::{LoadedClaim, merged_pieces, plain_pieces};
+pub use loaded_claim::{
+    LoadedClaim, framed_pieces, has_own_frames, is_mixed, merged_pieces, plain_pieces,
+};
 pub use placed_claim::PlacedClaim;
-pub use stretches::{merged_stretches, stretches_of};
+pub use stretches::{part_stretches, stretches_of, table_stretches};

@@ -1,17 +1,17 @@
 //! A link that is judged whose objects are loaded: the names of these, and the sections that the image has.
-ghost use Rattle.std.specs.Prelude.{◌≡◌, All, IfOk, false, filter};
+ghost use Rattle.std.specs.Prelude.{◌≡◌, IfOk, filter};
 ghost use Rattle.check_link.specs.Views.{piece_views};
 ghost use Rattle.check_load.specs.Numbered.{AreNumbered};
 ghost use Rattle.check_load.specs.Views.{loaded_views};
 ghost use Rattle.elf_model.specs.Link.Pieces.{kept_sections};
 ghost use Rattle.judge_model.specs.Certificates.{IsInOrder};
-ghost use Rattle.judge_model.specs.Links.{merged_of, objects_of, pieces_of, plain_pieces};
-ghost use Rattle.judge_model.specs.RightForeign.{is_edited};
+ghost use Rattle.judge_model.specs.Frames.{has_own_frames, is_mixed};
+ghost use Rattle.judge_model.specs.Links.{framed_of, merged_of, objects_of, pieces_of, plain_pieces};
 ghost use Rattle.judge_stages.specs.Stages.{is_there};
 
 use crate::claim::Claim;
 use crate::keys::keys_of;
-use crate::pieces::{merged_among, plain_among, those_there};
+use crate::pieces::{are_mixed, framed_among, has_own, merged_among, plain_among, those_there};
 use check_link::{Names, Piece, pieces_of};
 use check_load::{Loaded, NameTable};
 use link_fields::Drops;
@@ -109,7 +109,7 @@ impl<'o, 'a> LoadedClaim<'o, 'a> {
     }
 }
 
-/// The sections of a link that its linker didn't edit, where it edited none that this judge can't judge.
+/// The sections of a link that its linker didn't edit.
 ///
 /// # Errors
 ///
@@ -118,8 +118,7 @@ pub fn plain_pieces<'a>(
     alloc: Global,
     loaded: &LoadedClaim<'_, 'a>,
 ) -> Result<Vec<Piece<'a>>, AllocError>
-    requires ordered { IsInOrder loaded.now.certificate }
-    requires unedited { All (λ p. is_edited loaded.now p ≡ false) (pieces_of loaded.now) }
+    requires { IsInOrder loaded.now.certificate }
     ensures { IfOk result (λ v. piece_views v.items ≡ plain_pieces loaded.now) }
 {
     let claim = loaded.claim();
@@ -142,4 +141,49 @@ pub fn merged_pieces<'a>(
     let claim = loaded.claim();
     let keys = keys_of(alloc, &claim.certificate.places)?;
     merged_among(alloc, loaded.pieces(), &Drops::new(&keys))
+}
+
+/// The sections of call frames of which its linker made one list.
+///
+/// # Errors
+///
+/// Only where memory is refused.
+pub fn framed_pieces<'a>(
+    alloc: Global,
+    loaded: &LoadedClaim<'_, 'a>,
+) -> Result<Vec<Piece<'a>>, AllocError>
+    requires { IsInOrder loaded.now.certificate }
+    ensures { IfOk result (λ v. piece_views v.items ≡ framed_of loaded.now) }
+{
+    let claim = loaded.claim();
+    let keys = keys_of(alloc, &claim.certificate.places)?;
+    framed_among(alloc, loaded.pieces(), &Drops::new(&keys))
+}
+
+/// Whether some section of call frames of a link has a place line.
+///
+/// # Errors
+///
+/// Only where memory is refused.
+pub fn has_own_frames(alloc: Global, loaded: &LoadedClaim<'_, '_>) -> Result<bool, AllocError>
+    requires { IsInOrder loaded.now.certificate }
+    ensures { IfOk result (λ b. b ≡ has_own_frames loaded.now) }
+{
+    let claim = loaded.claim();
+    let keys = keys_of(alloc, &claim.certificate.places)?;
+    Ok(has_own(loaded.pieces(), &Drops::new(&keys)))
+}
+
+/// Whether some sections of call frames of a link have place lines and others have none.
+///
+/// # Errors
+///
+/// Only where memory is refused.
+pub fn is_mixed(alloc: Global, loaded: &LoadedClaim<'_, '_>) -> Result<bool, AllocError>
+    requires { IsInOrder loaded.now.certificate }
+    ensures { IfOk result (λ b. b ≡ is_mixed loaded.now) }
+{
+    let claim = loaded.claim();
+    let keys = keys_of(alloc, &claim.certificate.places)?;
+    Ok(are_mixed(loaded.pieces(), &Drops::new(&keys)))
 }

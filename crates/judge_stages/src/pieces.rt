@@ -1,11 +1,12 @@
-//! The sections that the image has, those among them that linkers don't edit, and those that they merge.
-ghost use Rattle.std.specs.Prelude.{◌≡◌, IfOk, filter};
+//! The sections that the image has, those among them that linkers don't edit, those that they merge, and those of call frames.
+ghost use Rattle.std.specs.Prelude.{◌≡◌, ◌&&◌, IfOk, filter};
+ghost use Rattle.std.specs.List.{list_any};
 ghost use Rattle.check_link.specs.Views.{piece_view, piece_views};
 ghost use Rattle.judge_model.specs.Links.{is_property};
-ghost use Rattle.judge_stages.specs.Stages.{is_merged_by, is_plain_by, is_there};
+ghost use Rattle.judge_stages.specs.Stages.{has_own_by, is_framed_by, is_merged_by, is_plain_by, is_there};
 
 use check_link::Piece;
-use link_fields::{Drops, is_mergeable};
+use link_fields::{Drops, is_frames, is_mergeable};
 use std::alloc::{AllocError, Global};
 
 /// Whether a section has the notes of properties, which linkers join.
@@ -40,12 +41,13 @@ pub fn those_there<'a>(
     Ok(there)
 }
 
-/// Whether a section has a place line, given those that have one, or is neither one that linkers merge nor one of notes of
-/// properties.
+/// Whether a section has a place line, given those that have one, or is neither one that linkers merge nor one of call frames or of
+/// notes of properties.
 fn is_plain(piece: &Piece<'_>, keys: &Drops<'_>) -> bool
     ensures { result ≡ is_plain_by keys.now (piece_view piece.now) }
 {
-    keys.has(piece.object, piece.section) || !(is_mergeable(piece) || is_property(piece))
+    keys.has(piece.object, piece.section)
+        || !(is_mergeable(piece) || is_frames(piece) || is_property(piece))
 }
 
 /// The sections that have a place line, given those that have one, or that linkers don't edit.
@@ -89,4 +91,68 @@ pub fn merged_among<'a>(
         }
     }
     Ok(merged)
+}
+
+/// Whether a section has call frames and no place line, given those that have one.
+fn is_framed(piece: &Piece<'_>, keys: &Drops<'_>) -> bool
+    ensures { result ≡ is_framed_by keys.now (piece_view piece.now) }
+{
+    is_frames(piece) && !keys.has(piece.object, piece.section)
+}
+
+/// The sections of call frames of which linkers made one list, given those that have a place line.
+pub fn framed_among<'a>(
+    alloc: Global,
+    pieces: &[Piece<'a>],
+    keys: &Drops<'_>,
+) -> Result<Vec<Piece<'a>>, AllocError>
+    ensures { IfOk result (λ v. piece_views v.items
+        ≡ filter (is_framed_by keys.now) (piece_views pieces.now)) }
+{
+    let mut framed = Vec::new(alloc);
+    for piece in pieces {
+        if is_framed(piece, keys) {
+            framed.push(*piece)?;
+        }
+    }
+    Ok(framed)
+}
+
+/// Whether one of some sections of call frames has no place line.
+fn has_framed(pieces: &[Piece<'_>], keys: &Drops<'_>) -> bool
+    ensures { result ≡ list_any (is_framed_by keys.now) (piece_views pieces.now) }
+{
+    for piece in pieces {
+        if is_framed(piece, keys) {
+            return true;
+        }
+    }
+    false
+}
+
+/// Whether a section has call frames and a place line, given those that have one.
+fn has_own_place(piece: &Piece<'_>, keys: &Drops<'_>) -> bool
+    ensures { result ≡ has_own_by keys.now (piece_view piece.now) }
+{
+    is_frames(piece) && keys.has(piece.object, piece.section)
+}
+
+/// Whether one of some sections of call frames has one.
+pub fn has_own(pieces: &[Piece<'_>], keys: &Drops<'_>) -> bool
+    ensures { result ≡ list_any (has_own_by keys.now) (piece_views pieces.now) }
+{
+    for piece in pieces {
+        if has_own_place(piece, keys) {
+            return true;
+        }
+    }
+    false
+}
+
+/// Whether some sections of call frames have place lines and others have none.
+pub fn are_mixed(pieces: &[Piece<'_>], keys: &Drops<'_>) -> bool
+    ensures { result ≡ (list_any (has_own_by keys.now) (piece_views pieces.now)
+        && list_any (is_framed_by keys.now) (piece_views pieces.now)) }
+{
+    has_own(pieces, keys) && has_framed(pieces, keys)
 }

@@ -1,1 +1,4 @@
+mod CollectedLaws
+mod GroupMarks
 pub mod KeptLaws
+mod Numbered

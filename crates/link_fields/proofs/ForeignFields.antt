@@ -17,7 +17,7 @@ use Rattle.elf_model.specs.declared.link_map.DropLine.{DropLine}
 use Rattle.elf_model.specs.declared.thing.Thing.{Thing}
 use Rattle.judge_model.specs.Certificates.{is_left_out}
 use Rattle.judge_model.specs.Fields as fields
-use Rattle.judge_model.specs.Fields.{HasSlotAt, HoldsField, HoldsPlain, HoldsValue, IsFieldRight, IsRewritten, IsSlot, instruction_of, is_code_in, kind_of, rewritten, rewritten_entry, slot_thing}
+use Rattle.judge_model.specs.Fields.{HasSlotAt, HoldsField, HoldsPlain, HoldsValue, IsFieldRight, IsPlaceRight, IsRewritten, IsSlot, instruction_of, is_code_in, kind_of, rewritten, rewritten_entry, slot_thing}
 use Rattle.judge_model.specs.Links.{ForeignLink, is_in_image_too, objects_of, placed_of, relocations_of, sections_of}
 use Rattle.judge_model.specs.Means as means
 use Rattle.judge_model.specs.Placed.{things_of}
@@ -33,7 +33,7 @@ use Rattle.link_fields.proofs.Lists.{apart_from, never_in, passing}
 use Rattle.link_fields.specs.Slots.{AsksSlotIn, AsksSlotUnlessOut}
 use Rattle.elf_model.proofs.Finding.{Any-from_contains}
 use Rattle.elf_model.proofs.Listed.{Contains-filter, Contains-from_filter}
-use Rattle.link_fields.specs.Parts.{AreTaken, IsFieldRightIn, IsFieldRightUnlessOut, address_of, definition_of, given, has_frames, is_thread_use, meant, parts_of, size_of}
+use Rattle.link_fields.specs.Parts.{AreTaken, IsFieldRightIn, IsFieldRightUnlessOut, IsPlaceRightIn, address_of, definition_of, given, is_in_own_frames, is_thread_use, meant, parts_of, size_of}
 
 -- no relocation of a kind whose formula is S + A is rewritten
 no_sums : (w : Rewriting) → list_any means.is_sum (rewrite_of w).types ≡ false
@@ -82,7 +82,7 @@ module _ (l : ForeignLink) (taken : List Thing) (are : AreTaken l taken) where
       by a here (inr gap) = s.outside gap.0 gap.1 a gap.2 here
 
   module _ (r : Relocation) where
-    meant_is : means.meant l r ≡ meant (parts_of l) (has_frames r.name) r.symbol (means.added r.entry)
+    meant_is : means.meant l r ≡ meant (parts_of l) (is_in_own_frames (parts_of l) r) r.symbol (means.added r.entry)
     unfolding means.meant
     meant_is = refl
 
@@ -146,7 +146,7 @@ module _ (l : ForeignLink) (taken : List Thing) (are : AreTaken l taken) where
         HoldsPlainIn l.image taken (given (parts_of l) r) k o → HoldsPlain l r k o
     plain_of k None kind_is asks h =
         subst (λ (m : Option ℕ). IsSomeAnd m (λ v. HoldsValue l r k v 0)) (sym meant_is)
-        (held (meant (parts_of l) (has_frames r.name) r.symbol (means.added r.entry)) h)
+        (held (meant (parts_of l) (is_in_own_frames (parts_of l) r) r.symbol (means.added r.entry)) h)
       where
         held : (m : Option ℕ) → IsSomeAnd m (λ v. HoldsValueIn l.image (given (parts_of l) r) k v 0) → IsSomeAnd m (λ v. HoldsValue l r k v 0)
         held None never = never
@@ -157,7 +157,7 @@ module _ (l : ForeignLink) (taken : List Thing) (are : AreTaken l taken) where
         (k : Kind) (o : Option SlotKind) → kind_of r ≡ Some k → slot_kind_of k.formula ≡ o →
         HoldsPlain l r k o → HoldsPlainIn l.image taken (given (parts_of l) r) k o
     plain_in k None kind_is asks h =
-        held (meant (parts_of l) (has_frames r.name) r.symbol (means.added r.entry))
+        held (meant (parts_of l) (is_in_own_frames (parts_of l) r) r.symbol (means.added r.entry))
         (subst (λ (m : Option ℕ). IsSomeAnd m (λ v. HoldsValue l r k v 0)) meant_is h)
       where
         held : (m : Option ℕ) → IsSomeAnd m (λ v. HoldsValue l r k v 0) → IsSomeAnd m (λ v. HoldsValueIn l.image (given (parts_of l) r) k v 0)
@@ -186,7 +186,7 @@ module _ (l : ForeignLink) (taken : List Thing) (are : AreTaken l taken) where
       told.0,
       told.1,
       subst (HoldsPlain l r k) (sym free)
-          (held (meant (parts_of l) (has_frames r.name) r.symbol (means.added r.entry)) meant_is (subst (HoldsPlainIn l.image taken (given (parts_of l) r) k) free told.2)),
+          (held (meant (parts_of l) (is_in_own_frames (parts_of l) r) r.symbol (means.added r.entry)) meant_is (subst (HoldsPlainIn l.image taken (given (parts_of l) r) k) free told.2)),
     )
       where
         held :
@@ -201,7 +201,7 @@ module _ (l : ForeignLink) (taken : List Thing) (are : AreTaken l taken) where
       told.0,
       told.1,
       subst (HoldsPlainIn l.image taken (given (parts_of l) r) k) (sym free)
-          (held (meant (parts_of l) (has_frames r.name) r.symbol (means.added r.entry))
+          (held (meant (parts_of l) (is_in_own_frames (parts_of l) r) r.symbol (means.added r.entry))
           (subst (λ (m : Option ℕ). IsSomeAnd m (λ v. HoldsValue l r k v 0)) meant_is (subst (HoldsPlain l r k) free told.2))),
     )
       where
@@ -217,7 +217,7 @@ module _ (l : ForeignLink) (taken : List Thing) (are : AreTaken l taken) where
     -- what a row's field is given, with the addend that may say what a symbol means; none does of a row's types
     abbrev with_added : Rewriting → Option ℕ → Given
     with_added w a = record {
-      value = meant (parts_of l) (has_frames r.name) r.symbol a;
+      value = meant (parts_of l) (is_in_own_frames (parts_of l) r) r.symbol a;
       addend = ((rewrite_of w).put own).addend;
       at = unwrap_or (address_of (placed_of l) r.object r.section) 0;
       offset = r.entry.r_offset - length (rewrite_of w).behind;
@@ -261,18 +261,24 @@ module _ (l : ForeignLink) (taken : List Thing) (are : AreTaken l taken) where
       behind = h.behind;
     }
 
-    pub right_of : IsFieldRightIn (parts_of l) taken r → IsFieldRight l r
-    right_of (inl same) = inl (record { front = same.front_is; field = kind_of_right r same.field })
-    right_of (inr rewritten) = inr (by rewritten.some)
+    place_of : IsPlaceRightIn (parts_of l) taken r → IsPlaceRight l r
+    place_of (inl same) = inl (record { front = same.front_is; field = kind_of_right r same.field })
+    place_of (inr rewritten) = inr (by rewritten.some)
       where
         by :
             Any (IsRewrittenIn l.image taken (given (parts_of l) r) (rela_type r.entry) (front_of r.entry) own) rewritings →
             Any (IsRewritten l r) rewritings
         by (i, w, low, is, h) = (i, w, low, is, row_of w rewritten.told rewritten.code_is h)
 
+    place_in : IsPlaceRight l r → IsPlaceRightIn (parts_of l) taken r
+    place_in (inl same) = inl (record { front_is = same.front; field = kind_in r same.field })
+    place_in (inr (i, w, low, is, h)) = inr (record { told = h.told; code_is = h.code; some = (i, w, low, is, row_in w h) })
+
+    pub right_of : IsFieldRightIn (parts_of l) taken r → IsFieldRight l r
+    right_of h = record { right = λ out. place_of (h.right out) }
+
     pub right_in : IsFieldRight l r → IsFieldRightIn (parts_of l) taken r
-    right_in (inl same) = inl (record { front_is = same.front; field = kind_in r same.field })
-    right_in (inr (i, w, low, is, h)) = inr (record { told = h.told; code_is = h.code; some = (i, w, low, is, row_in w h) })
+    right_in h = record { right = λ out. place_in (h.right out) }
 
   -- the slots of all, but for those of sections that are left out
   pub some_slot :

@@ -16,7 +16,7 @@ use Rattle.field_judge.specs.Given.{Given}
 use Rattle.field_judge.specs.Rewritten.{IsOfKind, IsPlaceRight}
 use Rattle.judge_model.specs.Fields.{instruction_of, is_code_in}
 use Rattle.judge_model.specs.Rewrites.{Instruction, front_of, instruction_in}
-use Rattle.link_fields.specs.Parts.{IsFieldRightIn, Parts, given}
+use Rattle.link_fields.specs.Parts.{IsPlaceRightIn, Parts, given}
 
 -- an object that is read is there
 pub object_there : (xs : List Loaded) (k : ℕ) (x : Loaded) → k < length xs → x ≡ get_or xs k x → slice_get (loaded_views xs) k ≡ Some (loaded_view x)
@@ -50,7 +50,7 @@ module _ (p : Parts) (things : List Thing) (number : ℕ) (o : LoadedObject) (k 
 
   pub alone_right :
       (type front : ℕ) → type ≡ rela_type k.entry → front ≡ front_of k.entry → front ≡ 0 →
-      IsTrue b ↔ IsOfKind image things g type → IsTrue b ↔ IsFieldRightIn p things (relocation_at number o k)
+      IsTrue b ↔ IsOfKind image things g type → IsTrue b ↔ IsPlaceRightIn p things (relocation_at number o k)
   alone_right type front type_is front_is none both =
       field_alone p.image things g (rela_type k.entry) (front_of k.entry) (is_code_in p.objects (relocation_at number o k))
       (instruction_of p.objects (relocation_at number o k)) b (sym front_is ∙ none)
@@ -60,7 +60,7 @@ module _ (p : Parts) (things : List Thing) (number : ℕ) (o : LoadedObject) (k 
   pub place_right :
       (type front : ℕ) (code : Bool) (i : Instruction) → type ≡ rela_type k.entry → front ≡ front_of k.entry →
       code ≡ is_executable (section (sections o.bytes) k.section) → i ≡ instruction_in (unwrap_or (section_bytes o.bytes k.section) []) k.entry →
-      IsTrue b ↔ IsPlaceRight image things g type front code i → IsTrue b ↔ IsFieldRightIn p things (relocation_at number o k)
+      IsTrue b ↔ IsPlaceRight image things g type front code i → IsTrue b ↔ IsPlaceRightIn p things (relocation_at number o k)
   place_right type front code i type_is front_is code_is i_is both =
       subst (λ (m : List ℕ). IsTrue b ↔ IsPlaceRight m things g (rela_type k.entry) (front_of k.entry) (is_code_in p.objects (relocation_at number o k)) (instruction_of p.objects (relocation_at number o k))) same
       (subst (λ (t : ℕ). IsTrue b ↔ IsPlaceRight image things g t (front_of k.entry) (is_code_in p.objects (relocation_at number o k)) (instruction_of p.objects (relocation_at number o k))) type_is

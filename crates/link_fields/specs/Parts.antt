@@ -120,7 +120,7 @@ local_meant placed merged frames s a =
 abbrev pub has_frames : List ℕ → Bool
 has_frames name = bytes_eq name (codes ".eh_frame")
 
--- what a symbol means to a relocation of a section which has frames, or hasn't, with the addend that may say what is meant
+-- what a symbol means to a relocation of a section which has unedited frames, or hasn't, with the addend that may say what is meant
 abbrev pub meant : Parts → Bool → SymbolOf → Option ℕ → Option ℕ
 meant p frames s a = cond (is_local s) (local_meant p.placed p.merged frames s a) (named_value p s)
 
@@ -145,10 +145,20 @@ pub record IsMeant (p : Parts) (frames : Bool) (s : SymbolOf) (a : Option ℕ) (
 
 -- Fields.
 
+-- a relocation is one of call frames that have their own address; it is one of those in the linker's list, which have none
+abbrev pub has_address : Parts → Relocation → Bool
+has_address p r = is_some (address_of p.placed r.object r.section)
+
+abbrev pub is_in_own_frames : Parts → Relocation → Bool
+is_in_own_frames p r = has_frames r.name && has_address p r
+
+abbrev pub is_in_list : Parts → Relocation → Bool
+is_in_list p r = has_frames r.name && not (has_address p r)
+
 -- what a relocation gives its field
 abbrev pub given : Parts → Relocation → Given
 given p r = record {
-  value = meant p (has_frames r.name) r.symbol (added r.entry);
+  value = meant p (is_in_own_frames p r) r.symbol (added r.entry);
   addend = r.entry.r_addend;
   at = unwrap_or (address_of p.placed r.object r.section) 0;
   offset = r.entry.r_offset;
@@ -157,9 +167,12 @@ given p r = record {
   thread = is_thread_use p.objects (definition_of p r.symbol);
 }
 
-abbrev pub IsFieldRightIn : Parts → List Thing → Relocation → Type 0
-IsFieldRightIn p taken r =
+abbrev pub IsPlaceRightIn : Parts → List Thing → Relocation → Type 0
+IsPlaceRightIn p taken r =
     IsPlaceRight p.image taken (given p r) (rela_type r.entry) (front_of r.entry) (is_code_in p.objects r) (instruction_of p.objects r)
+
+pub record IsFieldRightIn (p : Parts) (taken : List Thing) (r : Relocation) : Type 0 where
+  pub right : is_in_list p r ≡ false → IsPlaceRightIn p taken r
 
 -- Where no slot may be: what takes up memory, and the gaps of runs.
 abbrev pub IsTaken : ForeignLink → ℕ → Type 0

@@ -4,11 +4,12 @@
 //! Begin with `LinkParts`, the parts of a link without a script. `are_fields_right` decides F5, given where memory is taken, and
 //! `are_rests_right` F7, where each section lies whole in a segment as F3 asks. A field's own bytes tell where its slot is;
 //! `slots_of` lists these. Code that linkers rewrite may stand in place of what takes an address from a slot.
-//! What names a string or a constant that was merged means the place that the certificate gives it. Edited frames have no fields
-//! here, as the definitions ask that they aren't edited.
+//! What names a string or a constant that was merged means the place that the certificate gives it. Fields of call frames that the
+//! linker made one list of are passed over here: F8 is about them.
 #![tactic(auto)]
 
 mod addresses;
+mod call_frames;
 mod drops;
 mod linker_values;
 mod meanings;
@@ -21,12 +22,13 @@ mod relocations;
 mod slots;
 
 pub use addresses::Addresses;
+pub use call_frames::is_frames;
 pub use drops::Drops;
 pub use meanings::{Meant, definition_of, merged_value, symbol_meant};
 pub use mergeable::is_mergeable;
 pub use merged_lines::MergedLines;
-pub use object_fields::place_of;
-pub use own_rests::are_rests_right;
+pub use object_fields::{ObjectFields, fields_of_object, place_of, turned_to};
+pub use own_rests::{are_rests_right, kept_spans};
 pub use parts::LinkParts;
-pub use relocations::are_fields_right;
+pub use relocations::{are_fields_right, asked_of, is_in_list};
 pub use slots::slots_of;

@@ -19,7 +19,7 @@ use memory_judge::{FieldSpan, holds_rest};
 use std::alloc::{AllocError, Global};
 
 /// The fields of a section of an object by rising places; none where the section is left out.
-fn kept_spans(
+pub fn kept_spans(
     alloc: Global,
     fields: &ObjectFields,
     drops: &Drops<'_>,

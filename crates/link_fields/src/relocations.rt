@@ -1,5 +1,5 @@
 //! Whether the fields of relocations are right, object by object.
-ghost use Rattle.std.specs.Prelude.{◌≡◌, ◌↔◌, ◌%◌, ◌^◌, [], All, IsTrue, Some, unwrap_or};
+ghost use Rattle.std.specs.Prelude.{◌≡◌, ◌↔◌, ◌%◌, ◌^◌, ◌&&◌, [], All, IsTrue, Some, is_some, unwrap_or};
 ghost use Rattle.std.specs.List.{slice_get};
 ghost use Rattle.elf_model.specs.Inputs.ObjectFile as object_file;
 ghost use Rattle.elf_model.specs.Inputs.ObjectFile.{rela_symbol};
@@ -16,7 +16,8 @@ ghost use Rattle.judge_model.specs.Means.{added, is_sum, natural};
 ghost use Rattle.judge_model.specs.Rewrites.{instruction_in};
 ghost use Rattle.judge_model.specs.RightForeign.{Holds};
 ghost use Rattle.judge_model.specs.declared.judgement.Requirement.TheVariants as requirement;
-ghost use Rattle.link_fields.specs.Parts.{AreTaken, IsFieldRightIn, IsFieldRightUnlessOut, IsMeant, given, parts_of};
+ghost use Rattle.link_fields.specs.Parts.{AreTaken, IsFieldRightIn, IsFieldRightUnlessOut, IsMeant, IsPlaceRightIn, given, is_in_list, parts_of};
+ghost use Rattle.check_load.specs.declared.kept_relocations.KeptRelocation.{KeptRelocation};
 
 use crate::drops::Drops;
 use crate::meanings::{Meant, symbol_meant};
@@ -83,6 +84,26 @@ fn added(entry: &Rela) -> Option<u64>
     }
 }
 
+/// Whether a section of object `number` has an address of its own.
+fn has_address(parts: &LinkParts<'_, '_, '_>, number: u64, section: u32) -> bool
+    ensures { result ≡ is_some (words.address_of parts.now.placed number section) }
+{
+    parts.addresses.address(number, section as u64).is_some()
+}
+
+/// Whether a section of object `number` has call frames that have an address of their own.
+fn has_own_frames(
+    parts: &LinkParts<'_, '_, '_>,
+    number: u64,
+    loaded: &Loaded<'_>,
+    section: u32,
+) -> bool
+    ensures { result ≡ (words.has_frames (unwrap_or (object_file.section_name loaded.now.object section) [])
+        && is_some (words.address_of parts.now.placed number section)) }
+{
+    has_frames(&loaded.object, section as usize) && has_address(parts, number, section)
+}
+
 /// What the symbol of a relocation of a section of object `number` means to it.
 fn meant_at<'a>(
     parts: &LinkParts<'_, '_, 'a>,
@@ -92,10 +113,11 @@ fn meant_at<'a>(
     entry: &Rela,
 ) -> Meant
     ensures { IsMeant parts.now
-        (words.has_frames (unwrap_or (object_file.section_name loaded.now.object section) []))
+        (words.has_frames (unwrap_or (object_file.section_name loaded.now.object section) [])
+        && is_some (words.address_of parts.now.placed number section))
         (symbol_at number (loaded_view loaded.now) (rela_symbol entry.now)) (added entry.now) result }
 {
-    let frames = has_frames(&loaded.object, section as usize);
+    let frames = has_own_frames(parts, number, loaded, section);
     let symbol = symbol_of(loaded, number, entry.symbol() as usize);
     symbol_meant(parts, frames, &symbol, added(entry))
 }
@@ -165,6 +187,44 @@ fn is_code(loaded: &Loaded<'_>, section: u32) -> bool
 }
 
 /// Whether the place of a relocation of object `number` is right, among things that take up memory.
+fn is_own_place_right<'a>(
+    parts: &LinkParts<'_, '_, 'a>,
+    taken: &Taken<'_>,
+    number: u64,
+    loaded: &Loaded<'a>,
+    relocation: &KeptRelocation,
+    thread_pointer: u64,
+) -> bool
+    requires pointer { thread_pointer ≡ pointer_of parts.now.image % 2 ^ 64 }
+    requires own { slice_get parts.now.objects number ≡ Some (loaded_view loaded.now) }
+    ensures { IsTrue result ↔ IsPlaceRightIn parts.now taken.now
+        (relocation_at number (loaded_view loaded.now) relocation.now) }
+{
+    let asked = asked_of(parts, number, loaded, relocation, thread_pointer);
+    let kind = relocation.entry.kind();
+    let front = front_of(&relocation.entry);
+    if front == 0 {
+        return is_of_kind(parts.image, taken, &asked, kind);
+    }
+    let code = is_code(loaded, relocation.section);
+    let i = instruction_of(loaded, relocation);
+    is_place_right(parts.image, taken, &asked, kind, front, code, i)
+}
+
+/// Whether a section of object `number` has call frames that are in the linker's list.
+pub fn is_in_list(
+    parts: &LinkParts<'_, '_, '_>,
+    number: u64,
+    loaded: &Loaded<'_>,
+    section: u32,
+) -> bool
+    ensures { (k : KeptRelocation) → k.section ≡ section
+        → result ≡ is_in_list parts.now (relocation_at number (loaded_view loaded.now) k) }
+{
+    has_frames(&loaded.object, section as usize) && !has_address(parts, number, section)
+}
+
+/// Whether the place of a relocation of object `number` is right, where it isn't one of call frames in the linker's list.
 fn is_field_right<'a>(
     parts: &LinkParts<'_, '_, 'a>,
     taken: &Taken<'_>,
@@ -178,15 +238,10 @@ fn is_field_right<'a>(
     ensures { IsTrue result ↔ IsFieldRightIn parts.now taken.now
         (relocation_at number (loaded_view loaded.now) relocation.now) }
 {
-    let asked = asked_of(parts, number, loaded, relocation, thread_pointer);
-    let kind = relocation.entry.kind();
-    let front = front_of(&relocation.entry);
-    if front == 0 {
-        return is_of_kind(parts.image, taken, &asked, kind);
+    if is_in_list(parts, number, loaded, relocation.section) {
+        return true;
     }
-    let code = is_code(loaded, relocation.section);
-    let i = instruction_of(loaded, relocation);
-    is_place_right(parts.image, taken, &asked, kind, front, code, i)
+    is_own_place_right(parts, taken, number, loaded, relocation, thread_pointer)
 }
 
 /// Whether the field of a relocation is right, or its section is left out.

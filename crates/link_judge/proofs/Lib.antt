@@ -1,4 +1,5 @@
 pub mod MergedLaws
+pub mod Negations
 pub mod Requirements
 pub mod SharedCode
 pub mod Starts

@@ -5,15 +5,16 @@ use Rattle.elf_model.specs.Inputs.Files.{File}
 use Rattle.elf_model.specs.Inputs.ObjectFile.{rela_type}
 use Rattle.elf_model.specs.Link.Relocation.{Relocation}
 use Rattle.judge_model.specs.Certificates.{CertificateRecord, IsInOrder}
+use Rattle.judge_model.specs.Frames.{AreFramesReadable}
 use Rattle.judge_model.specs.Headers.{IsProgram}
 use Rattle.judge_model.specs.Loaded.{AreReadable}
 use Rattle.judge_model.specs.Links.{ForeignLink, relocations_of}
 use Rattle.judge_model.specs.Plans.{ForeignPlan}
-use Rattle.judge_model.specs.RightForeign.{Holds, IsJudged, IsShown}
+use Rattle.judge_model.specs.RightForeign.{HasNoOtherTable, Holds, IsJudged, IsShown}
 use Rattle.judge_model.specs.Words.{IsAsked}
 use Rattle.judge_model.specs.declared.judgement.Requirement.{Requirement}
 use Rattle.judge_model.specs.declared.judgement.Requirement.TheVariants.{F1, F2, F3, F4, F5, F6, F7, F8, F9, F10, F11, F12, F13}
-use Rattle.link_judge.specs.Inputs.{AreArraysWhole, AreFieldsSound, AreNamesUnmixed, AreNotesJoined, AreObjectsSound, AreUnedited, HasNoFrameTable}
+use Rattle.link_judge.specs.Inputs.{AreArraysWhole, AreFieldsSound, AreNamesUnmixed, AreNotesJoined, AreObjectsSound, AreUnedited}
 use Rattle.link_judge.specs.declared.judgement.Judgement.{Judgement}
 use Rattle.link_judge.specs.declared.judgement.Judgement.TheVariants.{No, NotJudged, Yes}
 use Rattle.link_judge.specs.declared.judgement.Reason.{Reason}
@@ -74,18 +75,18 @@ pub record Fails (f : Requirement) (l : ForeignLink) : Type 0 where
   pub told : IsTold f l
   pub code : IsCodePlain f l
 
--- Why a link isn't judged: its words ask for --gc-sections; or a part of IsJudged doesn't hold; or fields or bytes aren't right,
+-- Why a link isn't judged: a part of IsJudged doesn't hold; or fields or bytes aren't right,
 -- which may be as the linker rewrote code that asks for thread-local storage.
 abbrev pub IsReason : Reason → ForeignLink → Type 0
-IsReason reason.Unused l = l.plan.collects ≡ true
 IsReason reason.Unreadable l = ¬ AreReadable l.files l.plan.plan
 IsReason reason.Objects l = ¬ AreObjectsSound l
 IsReason reason.Arrays l = ¬ AreArraysWhole l
 IsReason reason.Edited l = ¬ AreUnedited l
+IsReason reason.Records l = ¬ AreFramesReadable l
 IsReason reason.Joined l = ¬ AreNotesJoined l
 IsReason reason.Mixed l = ¬ AreNamesUnmixed l
 IsReason reason.Fields l = ¬ AreFieldsSound l
-IsReason reason.Frames l = ¬ HasNoFrameTable l
+IsReason reason.Frames l = ¬ HasNoOtherTable l
 IsReason reason.Code l = HasSharedThreadCode l × ((¬ Holds F5 l) ⊎ (¬ Holds F7 l))
 
 -- a yes: the link is judged, and all requirements hold

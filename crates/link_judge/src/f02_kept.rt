@@ -1,5 +1,5 @@
-//! F2: the image has all sections but those that no image has.
-ghost use Rattle.std.specs.Prelude.{◌≡◌, ◌↔◌, IfOk, IsTrue, None, false};
+//! F2: the image has all sections but those that no image has, or with --gc-sections at least those that stay.
+ghost use Rattle.std.specs.Prelude.{◌≡◌, ◌↔◌, IfOk, IsTrue, None};
 ghost use Rattle.judge_model.specs.RightForeign.{Holds};
 ghost use Rattle.judge_model.specs.declared.judgement.Requirement.TheVariants as requirement;
 
@@ -7,11 +7,12 @@ use judge_stages::LoadedClaim;
 use keep_judge::are_sections_kept;
 use std::alloc::{AllocError, Global};
 
-/// Whether a link without a script and without --gc-sections keeps its sections.
+/// Whether a link without a script keeps its sections.
 pub fn holds(alloc: Global, loaded: &LoadedClaim<'_, '_>) -> Result<bool, AllocError>
-    requires collects { loaded.now.plan.collects ≡ false }
     requires script { loaded.now.plan.script ≡ None }
     ensures { IfOk result (λ b. IsTrue b ↔ Holds requirement.F2 loaded.now) }
 {
-    are_sections_kept(alloc, loaded.names().objects(), loaded.drops())
+    let claim = loaded.claim();
+    let collects = claim.wider.collects;
+    are_sections_kept(alloc, loaded.names(), &claim.plan, collects, loaded.drops())
 }

@@ -1,5 +1,5 @@
 //! F3: sections and common blocks are aligned, apart and in memory, in their runs, and where the words ask for them.
-ghost use Rattle.std.specs.Prelude.{◌≡◌, ◌↔◌, All, Any, IfOk, IsTrue, None, false, map, true};
+ghost use Rattle.std.specs.Prelude.{◌≡◌, ◌↔◌, All, Any, IfOk, IsTrue, None, map, true};
 ghost use Rattle.linkmap.specs.Borrowed.{common_row};
 ghost use Rattle.judge_model.specs.Certificates.{IsInOrder};
 ghost use Rattle.elf_model.specs.Image.MemoryImage.{loads};
@@ -26,7 +26,7 @@ use run_judge::{RunPair, are_runs_right};
 use std::alloc::{AllocError, Global};
 use thread_judge::are_low;
 
-/// Whether the lines of sections and common blocks are those of a link without --gc-sections.
+/// Whether the lines of sections and common blocks are those of a link.
 fn are_lines_right(
     placed: &PlacedClaim<'_, '_>,
     rows: &[BorrowedCommon<'_>],
@@ -34,14 +34,13 @@ fn are_lines_right(
 ) -> bool
     requires rows { map common_row rows.now ≡ placed.now.certificate.commons }
     requires lines { lines.now ≡ placed.now.certificate.commons }
-    requires collects { placed.now.plan.collects ≡ false }
     ensures { IsTrue result ↔ AreLinesRight placed.now }
 {
     let claim = placed.claim();
     if !are_lines_of(&claim.certificate.places, placed.plain()) {
         return false;
     }
-    are_commons_right(rows, lines, placed.names(), false)
+    are_commons_right(rows, lines, placed.names(), claim.wider.collects)
 }
 
 /// Whether all parts are low enough, aligned and apart.
@@ -144,7 +143,7 @@ fn has_right_runs(
     are_runs_right(alloc, pairs, &made, placed.placed())
 }
 
-/// Whether a link without a script and without --gc-sections, whose lines are in order, is placed right, given the neighbours of its
+/// Whether a link without a script, whose lines are in order, is placed right, given the neighbours of its
 /// runs.
 pub fn holds(
     alloc: Global,
@@ -157,7 +156,6 @@ pub fn holds(
     requires rows { map common_row rows.now ≡ placed.now.certificate.commons }
     requires lines { lines.now ≡ placed.now.certificate.commons }
     requires ordered { IsInOrder placed.now.certificate }
-    requires collects { placed.now.plan.collects ≡ false }
     requires script { placed.now.plan.script ≡ None }
     ensures { IfOk result (λ b. IsTrue b ↔ Holds requirement.F3 placed.now) }
 {

@@ -1,9 +1,10 @@
 //! F10: memory has nothing else: the linker's own notes are right, no slot is behind the end of all, and gaps have fill.
-ghost use Rattle.std.specs.Prelude.{◌≡◌, ◌↔◌, IfOk, IsTrue};
+ghost use Rattle.std.specs.Prelude.{◌≡◌, ◌++◌, ◌↔◌, IfOk, IsTrue, map};
 ghost use Rattle.judge_model.specs.Links.{sections_of};
 ghost use Rattle.judge_model.specs.Notes.{AreNotesRight};
 ghost use Rattle.judge_model.specs.Fill.{IsFilled};
-ghost use Rattle.judge_model.specs.Placed.{explained_things};
+ghost use Rattle.judge_model.specs.Headers.{table_stretches};
+ghost use Rattle.judge_model.specs.Placed.{explained_things, listed, stretch_of};
 ghost use Rattle.judge_model.specs.RightForeign.{Holds};
 ghost use Rattle.judge_model.specs.declared.judgement.Requirement.TheVariants as requirement;
 ghost use Rattle.link_fields.specs.Parts.{AreTaken};
@@ -11,7 +12,8 @@ ghost use Rattle.run_judge.specs.Pairs.{AreRunPairs};
 
 use elf_model::Thing;
 use gap_judge::are_gaps_filled;
-use judge_stages::{BoundClaim, PlacedClaim, merged_stretches};
+use judge_model::StretchLine;
+use judge_stages::{BoundClaim, PlacedClaim, part_stretches, table_stretches};
 use link_fields::slots_of;
 use memory_judge::Taken;
 use name_judge::do_bounds_spare_slots;
@@ -30,12 +32,40 @@ fn has_right_notes(placed: &PlacedClaim<'_, '_>) -> bool
     are_notes_right(placed.image(), objects, notes, claim.wider.features)
 }
 
-/// What the bytes of memory are of, beside slots: headers, notes, merged strings and constants, sections and common blocks.
+/// Where the tables of call frames are.
+fn tables_of(alloc: Global, placed: &PlacedClaim<'_, '_>) -> Result<Vec<StretchLine>, AllocError>
+    ensures { IfOk result (λ v. v.items ≡ table_stretches placed.now.image) }
+{
+    table_stretches(alloc, placed.image())
+}
+
+/// What the linker filled: notes, merged strings and constants, the list of call frames and its tables.
+fn filled_stretches(
+    alloc: Global,
+    placed: &PlacedClaim<'_, '_>,
+) -> Result<Vec<StretchLine>, AllocError>
+    ensures { IfOk result (λ v. v.items
+        ≡ placed.now.certificate.notes ++ (map stretch_of placed.now.certificate.merged
+        ++ (listed placed.now.certificate.list ++ table_stretches placed.now.image))) }
+{
+    let certificate = placed.claim().certificate;
+    let tables = tables_of(alloc, placed)?;
+    let list = certificate.list;
+    part_stretches(
+        alloc,
+        &certificate.notes,
+        &certificate.merged,
+        list,
+        &tables,
+    )
+}
+
+/// What the bytes of memory are of, beside slots: headers, notes, merged strings and constants, the list of call frames and its tables,
+/// sections and common blocks.
 fn explained_things(alloc: Global, placed: &PlacedClaim<'_, '_>) -> Result<Vec<Thing>, AllocError>
     ensures { IfOk result (λ v. v.items ≡ explained_things placed.now) }
 {
-    let certificate = placed.claim().certificate;
-    let stretches = merged_stretches(alloc, &certificate.notes, &certificate.merged)?;
+    let stretches = filled_stretches(alloc, placed)?;
     things_of(alloc, placed.image(), &stretches, placed.placed())
 }
 

@@ -1,16 +1,21 @@
 //! Whether the inputs of a link are of a kind that is judged, and why not.
 ghost use Rattle.std.specs.Prelude.{◌≡◌, ◌↔◌, IfOk, IfSome, IsTrue, None};
+ghost use Rattle.check_link.specs.Views.{piece_views};
+ghost use Rattle.judge_model.specs.Certificates.{IsInOrder};
+ghost use Rattle.judge_model.specs.Frames.{AreFramesReadable};
+ghost use Rattle.judge_model.specs.Links.{framed_of};
 ghost use Rattle.judge_model.specs.Loaded.{AreReadable};
-ghost use Rattle.link_judge.specs.Inputs.{AreFieldsSound, AreInputsSound, AreNamesUnmixed, AreNotesJoined, AreObjectsSound, AreSectionsSound, AreUnedited};
+ghost use Rattle.link_judge.specs.Inputs.{AreFieldsSound, AreInputsSound, AreNamesUnmixed, AreNotesJoined, AreObjectsSound, AreRecordsRead, AreSectionsSound, AreUnedited};
 ghost use Rattle.link_judge.specs.Judged.{IsReason};
 
 use crate::judgement::Reason;
-use check_link::Outputs;
+use check_link::{Outputs, Piece};
+use frame_judge::{FramedSections, are_lines_whole, are_relocations_plain};
 use input_judge::{
     are_arrays_whole, are_compiled, are_fields_apart, are_fields_inside, are_instructions_whole,
     are_notes_joined, are_unedited, are_unique,
 };
-use judge_stages::LoadedClaim;
+use judge_stages::{LoadedClaim, framed_pieces, is_mixed};
 use name_judge::are_names_unmixed;
 use std::alloc::{AllocError, Global};
 
@@ -42,6 +47,37 @@ fn are_pieces_unedited(alloc: Global, loaded: &LoadedClaim<'_, '_>) -> Result<bo
 {
     let places = &loaded.claim().certificate.places;
     are_unedited(alloc, loaded.names().objects(), loaded.pieces(), places)
+}
+
+/// Whether the sections of call frames that a linker made one list of can be judged, and the lines of their records.
+fn are_records_read(
+    alloc: Global,
+    loaded: &LoadedClaim<'_, '_>,
+    framed: &[Piece<'_>],
+) -> Result<bool, AllocError>
+    requires { piece_views framed.now ≡ framed_of loaded.now }
+    ensures { IfOk result (λ b. IsTrue b ↔ AreRecordsRead loaded.now) }
+{
+    let Some(sections) = FramedSections::read(alloc, framed)? else {
+        return Ok(false);
+    };
+    if !are_lines_whole(&sections, &loaded.claim().certificate.frames) {
+        return Ok(false);
+    }
+    let objects = loaded.names().objects();
+    Ok(are_relocations_plain(&sections, loaded.drops(), objects))
+}
+
+/// Whether the call frames of a link can be judged of which its linker made one list.
+fn are_frames_readable(alloc: Global, loaded: &LoadedClaim<'_, '_>) -> Result<bool, AllocError>
+    requires { IsInOrder loaded.now.certificate }
+    ensures { IfOk result (λ b. IsTrue b ↔ AreFramesReadable loaded.now) }
+{
+    if is_mixed(alloc, loaded)? {
+        return Ok(false);
+    }
+    let framed = framed_pieces(alloc, loaded)?;
+    are_records_read(alloc, loaded, &framed)
 }
 
 /// Whether no property note has a line.
@@ -84,6 +120,7 @@ fn reason_of_sections(
     alloc: Global,
     loaded: &LoadedClaim<'_, '_>,
 ) -> Result<Option<Reason>, AllocError>
+    requires ordered { IsInOrder loaded.now.certificate }
     ensures sound { IfOk result (λ o. o ≡ None → AreSectionsSound loaded.now) }
     ensures reason { IfOk result (λ o. IfSome o (λ r. IsReason r loaded.now)) }
 {
@@ -92,6 +129,9 @@ fn reason_of_sections(
     }
     if !are_pieces_unedited(alloc, loaded)? {
         return Ok(Some(Reason::Edited));
+    }
+    if !are_frames_readable(alloc, loaded)? {
+        return Ok(Some(Reason::Records));
     }
     if !are_properties_joined(alloc, loaded)? {
         return Ok(Some(Reason::Joined));
@@ -108,6 +148,7 @@ pub fn reason_against(
     loaded: &LoadedClaim<'_, '_>,
 ) -> Result<Option<Reason>, AllocError>
     requires readable { AreReadable loaded.now.files loaded.now.plan.plan }
+    requires ordered { IsInOrder loaded.now.certificate }
     ensures sound { IfOk result (λ o. o ≡ None → AreInputsSound loaded.now) }
     ensures reason { IfOk result (λ o. IfSome o (λ r. IsReason r loaded.now)) }
 {

@@ -5,23 +5,23 @@ use judge_model::Requirement;
 /// Why a link isn't judged.
 #[derive(Clone, Copy, Debug, PartialEq, Eq)]
 pub enum Reason {
-    /// Its words ask for --gc-sections.
-    Unused,
     /// A file is missing, or an archive or an object can't be read.
     Unreadable,
     /// Objects for link-time optimization, two strong definitions of a name, or a common symbol that isn't sound.
     Objects,
     /// An array of functions of which a section isn't aligned to 8, or has no whole entries.
     Arrays,
-    /// Strings, constants or frames that its linker edited.
+    /// Strings or constants that its linker edited.
     Edited,
+    /// Call frames that can't be read, or of which some have lines of places and others have none.
+    Records,
     /// A line for a property note, which linkers join.
     Joined,
     /// A name for where an output name begins or ends, whose sections are of several runs.
     Mixed,
     /// Fields that overlap or leave their section, or a symbol inside an instruction that linkers may rewrite.
     Fields,
-    /// A table of frames.
+    /// A table of call frames that have lines of places.
     Frames,
     /// Fields or bytes aren't right, but its linker may have rewritten code for thread-local storage.
     Code,

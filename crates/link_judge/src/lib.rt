@@ -9,6 +9,7 @@ mod f03_placed;
 mod f04_names;
 mod f05_fields;
 mod f07_rests;
+mod f08_frames;
 mod f09_threads;
 mod f10_nothing_else;
 mod f11_entry;

@@ -1,5 +1,5 @@
 //! The whole judgement, from the top: what isn't judged, and the requirements in their order, each judged where all before it hold.
-ghost use Rattle.std.specs.Prelude.{◌≡◌, ◌⊎◌, ℕ, IfOk, List, None, false};
+ghost use Rattle.std.specs.Prelude.{◌≡◌, ◌↔◌, ◌⊎◌, ℕ, IfOk, IsTrue, List, None};
 ghost use Rattle.elf_model.specs.Inputs.Files.{files_of};
 ghost use Rattle.judge_model.specs.Certificates.{IsInOrder, certificate_of};
 ghost use Rattle.check_load.specs.Numbered.{AreNumbered};
@@ -8,7 +8,7 @@ ghost use Rattle.judge_model.specs.Links.{objects_of, sections_of};
 ghost use Rattle.link_fields.specs.Parts.{AreTaken};
 ghost use Rattle.run_judge.specs.Pairs.{AreRunPairs};
 ghost use Rattle.judge_model.specs.Loaded.{AreReadable};
-ghost use Rattle.judge_model.specs.RightForeign.{Holds, IsJudged};
+ghost use Rattle.judge_model.specs.RightForeign.{HasNoOtherTable, Holds, IsJudged};
 ghost use Rattle.judge_model.specs.declared.judgement.Requirement.TheVariants as which;
 ghost use Rattle.foreign_words.specs.Spoken.{IsSpokenBy, IsWhole};
 ghost use Rattle.link_judge.specs.Inputs.{AreInputsSound};
@@ -17,18 +17,19 @@ ghost use Rattle.link_judge.specs.Judged.{HoldsBefore, IsCodePlain, IsJudgedBy, 
 use crate::judgement::{Judgement, Reason};
 use crate::rewrites::has_shared_thread_code;
 use crate::{
-    f02_kept, f03_placed, f04_names, f05_fields, f07_rests, f09_threads, f10_nothing_else,
-    f11_entry, f12_headers, f13_tables, inputs,
+    f02_kept, f03_placed, f04_names, f05_fields, f07_rests, f08_frames, f09_threads,
+    f10_nothing_else, f11_entry, f12_headers, f13_tables, inputs,
 };
 use byteview::View;
 use check_link::{CommonLines, Outputs};
 use check_load::NamedObjects;
 use elf_model::{InputFile, NameSeed};
-use foreign_image::ForeignImage;
+use foreign_image::{ForeignImage, has_frame_table};
 use foreign_words::Spoken;
-use input_judge::has_no_frame_table;
 use judge_model::{Certificate, Requirement};
-use judge_stages::{BoundClaim, Claim, LoadedClaim, PlacedClaim, borrowed_commons, plain_pieces};
+use judge_stages::{
+    BoundClaim, Claim, LoadedClaim, PlacedClaim, borrowed_commons, has_own_frames, plain_pieces,
+};
 use link_fields::{Addresses, MergedLines};
 use memory_judge::Taken;
 use order_judge::{OrderFault, load_in_order};
@@ -65,9 +66,6 @@ pub fn judge(
         image,
         certificate,
     };
-    if claim.wider.collects {
-        return Ok(Judgement::NotJudged(Reason::Unused));
-    }
     judge_claim(alloc, &claim, seed)
 }
 
@@ -97,13 +95,12 @@ fn no_code(requirement: Requirement, placed: &PlacedClaim<'_, '_>) -> Judgement
     no(requirement, placed.claim())
 }
 
-/// Judges a link without a script and without --gc-sections.
+/// Judges a link without a script.
 fn judge_claim<'a>(
     alloc: Global,
     claim: &'a Claim<'a>,
     seed: Option<NameSeed>,
 ) -> Result<Judgement, AllocError>
-    requires collects { claim.now.plan.collects ≡ false }
     requires script { claim.now.plan.script ≡ None }
     ensures { IfOk result (λ j. Judges j claim.entry.now) }
 {
@@ -123,7 +120,6 @@ fn judge_loaded<'a>(
     named: NamedObjects<'a>,
     seed: Option<NameSeed>,
 ) -> Result<Judgement, AllocError>
-    requires collects { claim.now.plan.collects ≡ false }
     requires script { claim.now.plan.script ≡ None }
     requires objects { loaded_views named.objects.items ≡ objects_of claim.now }
     requires numbered { AreNumbered named.names named.objects.items }
@@ -142,13 +138,29 @@ fn judge_loaded<'a>(
     judge_image(alloc, &loaded, seed)
 }
 
+/// Whether an image has no table of call frames, or none of these stand as they came.
+fn has_no_other_table(
+    alloc: Global,
+    loaded: &LoadedClaim<'_, '_>,
+    image: &ForeignImage<'_>,
+) -> Result<bool, AllocError>
+    requires ordered { IsInOrder loaded.now.certificate }
+    requires image { image.now ≡ loaded.now.image }
+    ensures { IfOk result (λ b. IsTrue b ↔ HasNoOtherTable loaded.now) }
+{
+    if !has_frame_table(image.headers()) {
+        return Ok(true);
+    }
+    let own = has_own_frames(alloc, loaded)?;
+    Ok(!own)
+}
+
 /// Judges a link of whose inputs nothing speaks against that.
 fn judge_image<'a>(
     alloc: Global,
     loaded: &LoadedClaim<'_, 'a>,
     seed: Option<NameSeed>,
 ) -> Result<Judgement, AllocError>
-    requires collects { loaded.now.plan.collects ≡ false }
     requires script { loaded.now.plan.script ≡ None }
     requires ordered { IsInOrder loaded.now.certificate }
     requires sound { AreInputsSound loaded.now }
@@ -159,7 +171,7 @@ fn judge_image<'a>(
     let Some(image) = ForeignImage::read(alloc, View::new(claim.image))? else {
         return Ok(Judgement::No(Requirement::F12));
     };
-    if !has_no_frame_table(image.headers()) {
+    if !has_no_other_table(alloc, loaded, &image)? {
         return Ok(Judgement::NotJudged(Reason::Frames));
     }
     judge_kept(alloc, loaded, image, seed)
@@ -172,7 +184,6 @@ fn judge_kept<'a>(
     image: ForeignImage<'a>,
     seed: Option<NameSeed>,
 ) -> Result<Judgement, AllocError>
-    requires collects { loaded.now.plan.collects ≡ false }
     requires script { loaded.now.plan.script ≡ None }
     requires ordered { IsInOrder loaded.now.certificate }
     requires judged { IsJudged loaded.now }
@@ -193,7 +204,6 @@ fn judge_sections<'a>(
     image: ForeignImage<'a>,
     seed: Option<NameSeed>,
 ) -> Result<Judgement, AllocError>
-    requires collects { loaded.now.plan.collects ≡ false }
     requires script { loaded.now.plan.script ≡ None }
     requires ordered { IsInOrder loaded.now.certificate }
     requires judged { IsJudged loaded.now }
@@ -278,6 +288,28 @@ fn judge_rests(
     let claim = bound.placed().claim();
     if !f07_rests::holds(alloc, bound)? {
         return Ok(no_code(Requirement::F7, bound.placed()));
+    }
+    judge_frames(alloc, bound, taken, pairs, seed)
+}
+
+/// Judges a link from the eighth requirement on.
+fn judge_frames(
+    alloc: Global,
+    bound: &BoundClaim<'_, '_, '_>,
+    taken: &Taken<'_>,
+    pairs: &[RunPair<'_>],
+    seed: Option<NameSeed>,
+) -> Result<Judgement, AllocError>
+    requires taken { AreTaken bound.now taken.now }
+    requires pairs { AreRunPairs (sections_of bound.now) pairs.now }
+    requires judged { IsJudged bound.now }
+    requires placed { Holds which.F3 bound.now }
+    requires before { HoldsBefore which.F8 bound.now }
+    ensures { IfOk result (λ j. Judges j bound.now) }
+{
+    let claim = bound.placed().claim();
+    if !f08_frames::holds(alloc, bound, taken)? {
+        return Ok(no(Requirement::F8, claim));
     }
     if !f09_threads::holds(bound.placed()) {
         return Ok(no(Requirement::F9, claim));

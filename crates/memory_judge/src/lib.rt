@@ -8,6 +8,6 @@ mod slots;
 mod spans;
 
 pub use numbers::{has_byte, holds_bytes, holds_number, number_at, shown};
-pub use rests::{FieldSpan, holds_rest};
+pub use rests::{FieldSpan, are_equal, holds_rest};
 pub use slots::{is_slot, slot_address};
 pub use spans::{Span, Taken, end_of, has_address, spans_of};

@@ -44,7 +44,7 @@ fn are_equal_padded(a: &[u8], b: &[u8]) -> bool
 }
 
 /// Whether two runs are equal from one byte on and below another; bytes past an end count as 0.
-fn are_equal(a: &[u8], b: &[u8], from: u64, to: u64) -> bool
+pub fn are_equal(a: &[u8], b: &[u8], from: u64, to: u64) -> bool
     requires { from ≤ to }
     ensures { IsTrue result ↔ AreEqual a.now b.now from to }
 {

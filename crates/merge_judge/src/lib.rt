@@ -10,3 +10,4 @@ mod units;
 
 pub use areas::are_areas_right;
 pub use lines::are_lines_right;
+pub use sections::Sections;

@@ -83,11 +83,25 @@ impl<'s, 'a> Sections<'s, 'a> {
         Ok(Sections { pieces, index })
     }
 
+    /// The place among these of the section of a number of an object; None where it isn't among them.
+    pub fn place(&self, object: u64, section: u64) -> Option<u64>
+        ensures { sections.piece_at self.now result ≡ find (is_numbered object section) self.now }
+    {
+        self.index.get(&(object, section)).copied()
+    }
+
+    /// The sections.
+    pub fn pieces(&self) -> &'s [Piece<'a>]
+        ensures { piece_views result.now ≡ self.entry.now }
+    {
+        self.pieces
+    }
+
     /// The section of a number of an object; None where it isn't among these.
     pub fn find(&self, object: u64, section: u64) -> Option<&'s Piece<'a>>
         ensures { option_map (λ p. piece_view p.now) result
             ≡ find (is_numbered object section) self.now }
     {
-        piece_at(self.pieces, self.index.get(&(object, section)).copied())
+        piece_at(self.pieces, self.place(object, section))
     }
 }

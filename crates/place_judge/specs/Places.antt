@@ -61,6 +61,7 @@ pub record AreStretchesInOrder (c : CertificateRecord) : Type 0 where
   pub notes : Ascends StretchBefore c.notes
   pub areas : Ascends StretchBefore c.areas
   pub merged : Ascends MergedBefore c.merged
+  pub frames : Ascends MergedBefore c.frames
 
 pub record AreTextsInOrder (c : CertificateRecord) : Type 0 where
   pub commons : Ascends CommonBefore c.commons

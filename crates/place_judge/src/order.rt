@@ -118,7 +118,7 @@ fn are_sections_in_order(certificate: &Certificate) -> bool
     are_places_rising(&certificate.places)
 }
 
-/// Whether notes and areas come by address, and merged strings and constants by object, section and offset.
+/// Whether notes and areas come by address, and merged strings and constants and records of call frames by object, section and offset.
 fn are_stretches_in_order(certificate: &Certificate) -> bool
     ensures { IsTrue result ↔ AreStretchesInOrder (certificate_of certificate.now) }
 {
@@ -128,7 +128,10 @@ fn are_stretches_in_order(certificate: &Certificate) -> bool
     if !are_stretches_rising(&certificate.areas) {
         return false;
     }
-    are_merged_rising(&certificate.merged)
+    if !are_merged_rising(&certificate.merged) {
+        return false;
+    }
+    are_merged_rising(&certificate.frames)
 }
 
 /// Whether the lines of common blocks and of names come by name.

@@ -1,10 +1,10 @@
 -- Whether an entry of a symbol table is right, by what is known of its name.
-use Rattle.std.specs.Prelude.{◌≡◌, ◌⊎◌, ℕ, Any, Bool, false, true, List, IsSomeAnd, is_some}
+use Rattle.std.specs.Prelude.{◌≡◌, ◌⊎◌, ◌≤◌, ℕ, Any, Bool, false, true, List, IsSomeAnd, is_some}
 use Rattle.std.specs.List.{position, slice_get}
 use Rattle.std.specs.Str.{bytes_eq}
 use Rattle.byteview.specs.Numbers.{text}
 use Rattle.elf_model.specs.Link.Resolution.{binding, is_undefined, is_weak, symbol_type}
-use Rattle.elf_model.specs.declared.constants.TheConstants.{STB_LOCAL, STT_NOTYPE, STT_SECTION}
+use Rattle.elf_model.specs.declared.constants.TheConstants.{STB_LOCAL, STT_OBJECT, STT_SECTION}
 use Rattle.elf_model.specs.declared.records.SectionHeader.{SectionHeader}
 use Rattle.elf_model.specs.declared.records.Symbol.{Symbol}
 use Rattle.judge_model.specs.Tables.{IsFile, is_made_name}
@@ -29,7 +29,7 @@ named_by p strings names offset = record {
 pub record IsMissingBy (defined : Bool) (e : Symbol) : Type 0 where
   pub undefined : is_undefined e ≡ true
   pub value : e.st_value ≡ 0
-  pub weak : is_weak e ≡ true
+  pub weak : (is_weak e ≡ true) ⊎ (binding e ≡ STB_LOCAL)
   pub none : defined ≡ false
 
 -- an entry of a name that the linker made of itself
@@ -37,7 +37,7 @@ pub record IsMadeBy (named : Named) (e : Symbol) : Type 0 where
   pub known : named.made ≡ true
   pub none : named.defined ≡ false
   pub binding_ : binding e ≡ STB_LOCAL
-  pub type_ : symbol_type e ≡ STT_NOTYPE
+  pub type_ : symbol_type e ≤ STT_OBJECT
   pub size : e.st_size ≡ 0
 
 abbrev pub BeginsAt : ℕ → SectionHeader → Type 0

@@ -11,7 +11,7 @@ use crate::simple_entries::{is_file, is_missing, is_section};
 use crate::wanted::{Wanted, fits};
 use byteview::View;
 use check_load::NameTable;
-use elf_model::{STT_NOTYPE, SectionHeader, Symbol};
+use elf_model::{STT_OBJECT, SectionHeader, Symbol};
 
 /// What is known of the name at an offset of a string table: its number among the names of entries, whether objects or the linker
 /// define it, what its entry has to be, where the image has what it means, and whether it is one that linkers make of themselves.
@@ -94,14 +94,14 @@ fn fits_local(sections: &[SectionHeader], locals: &Locals, named: &Named, entry:
     }
 }
 
-/// Whether an entry is of a name that the linker made of itself, and nothing defines: LOCAL, without a type and a size.
+/// Whether an entry is of a name that the linker made of itself, and nothing defines: LOCAL, without a size, of an object or no type.
 fn is_made(named: &Named, entry: &Symbol) -> bool
     ensures { IsTrue result ↔ IsMadeBy named.now entry.now }
 {
     if !named.made || named.defined || !entry.is_local() {
         return false;
     }
-    entry.symbol_type() == STT_NOTYPE && entry.st_size == 0
+    entry.symbol_type() <= STT_OBJECT && entry.st_size == 0
 }
 
 /// Whether an entry is right, by what is known of its name.

@@ -7,7 +7,7 @@ ghost use Rattle.judge_model.specs.Tables.{is_made_name, made_names};
 
 use check_link::output_bound;
 
-/// Whether a name is one of dynamic linking, or of what few images have.
+/// Whether a name is one of dynamic linking, of what few images have, or of an end of the list of call frames.
 fn is_listed(name: &[u8]) -> bool
     ensures { result ≡ list_any (bytes_eq name.now) made_names }
 {
@@ -20,7 +20,10 @@ fn is_listed(name: &[u8]) -> bool
     if name == b"__dso_handle".as_slice() || name == b"__rela_iplt_start".as_slice() {
         return true;
     }
-    name == b"__rela_iplt_end".as_slice()
+    if name == b"__rela_iplt_end".as_slice() || name == b"__EH_FRAME_BEGIN__".as_slice() {
+        return true;
+    }
+    name == b"__FRAME_END__".as_slice()
 }
 
 /// Whether a name is `__start_N` or `__stop_N`.

@@ -6,14 +6,14 @@ ghost use Rattle.symbol_judge.specs.Entries.{BeginsAt, IsMissingBy, IsSectionBy}
 
 use elf_model::{SHN_ABS, SHN_UNDEF, STB_WEAK, STT_FILE, STT_SECTION, SectionHeader, Symbol};
 
-/// Whether an entry is WEAK and undefined with the value 0, and its name isn't defined.
+/// Whether an entry is WEAK or LOCAL, and undefined with the value 0, and its name isn't defined.
 pub fn is_missing(defined: bool, entry: &Symbol) -> bool
     ensures { IsTrue result ↔ IsMissingBy defined entry.now }
 {
     if defined || entry.st_shndx != SHN_UNDEF {
         return false;
     }
-    entry.st_value == 0 && entry.binding() == STB_WEAK
+    entry.st_value == 0 && (entry.binding() == STB_WEAK || entry.is_local())
 }
 
 /// Whether an entry stands for a file: LOCAL, absolute, with the value 0.

@@ -4,7 +4,7 @@ ghost use Rattle.elf_model.specs.Image.MemoryImage.{Encloses};
 ghost use Rattle.elf_model.specs.Link.LinkerValues.{end_of_pieces, start_of_pieces};
 ghost use Rattle.elf_model.specs.Link.ThreadStorage.{is_some_thread_data};
 ghost use Rattle.check_link.specs.Views.{placed_view, placed_views};
-ghost use Rattle.judge_model.specs.ThreadBlocks.{EndsAt, HasInitial, HoldsInitial, IsBlockOf, IsNowhere, IsSomeBlock, IsThreadBlockRight, IsThreadHeader, is_some_thread};
+ghost use Rattle.judge_model.specs.ThreadBlocks.{EndsAt, HasInitial, HoldsInitial, IsBlockOf, IsSomeBlock, IsThreadBlockRight, IsThreadHeader, is_some_thread};
 ghost use Rattle.thread_judge.specs.Parts.{AreLow, IsBehind, IsSamePlace, IsSome, part_test};
 ghost use Rattle.std.specs.Int.{is_power_of_two};
 
@@ -98,33 +98,11 @@ fn has_segment(h: &ProgramHeader, segments: &[ProgramHeader]) -> bool
     segments.iter().any(|g| holds_initial(h, g))
 }
 
-/// Whether a header's address isn't in a segment, nor at its end.
-fn is_beside(h: &ProgramHeader, g: &ProgramHeader) -> bool
-    ensures { IsTrue result ↔ (¬ Encloses g.now h.now.p_vaddr 0) }
-{
-    h.p_vaddr < g.p_vaddr || h.p_vaddr - g.p_vaddr > g.p_memsz
-}
-
-fn is_outside(h: &ProgramHeader, segments: &[ProgramHeader]) -> bool
-    ensures { IsTrue result ↔ All (λ g. ¬ Encloses g h.now.p_vaddr 0) segments.now }
-{
-    segments.iter().all(|g| is_beside(h, g))
-}
-
-fn is_nowhere(h: &ProgramHeader, segments: &[ProgramHeader]) -> bool
-    ensures { IsTrue result ↔ IsNowhere segments.now h.now }
-{
-    if h.p_filesz != 0 {
-        return false;
-    }
-    is_outside(h, segments)
-}
-
-/// Whether a segment has a header's initial bytes, or it has none and is in no segment.
+/// Whether a segment has a header's initial bytes, or it has none.
 fn has_initial(h: &ProgramHeader, segments: &[ProgramHeader]) -> bool
     ensures { IsTrue result ↔ HasInitial segments.now h.now }
 {
-    has_segment(h, segments) || is_nowhere(h, segments)
+    has_segment(h, segments) || h.p_filesz == 0
 }
 
 /// Whether a header's initial bytes end with the last piece that has some.

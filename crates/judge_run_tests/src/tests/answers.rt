@@ -27,7 +27,7 @@ const WORDS: &str = "--certificate=a.cert -static -o x a.o b.o";
 const READ: &str = "read a.cert\nread a.o\nread b.o\nread x\n";
 
 /// What is changed, and what is printed on `out`, with the status, where all files are read.
-static ROWS: [(Change, &str, u8); 14] = [
+static ROWS: [(Change, &str, u8); 16] = [
     (Change::Nothing, "yes", 0),
     // The objects in another order than that of the words.
     (
@@ -67,6 +67,12 @@ static ROWS: [(Change, &str, u8); 14] = [
     // A call that jumps one byte further; another instruction behind it.
     (Change::Image(FIELD, &[4]), "no F5", 1),
     (Change::Image(SECOND, &[0x33]), "no F7", 1),
+    // A list of call frames that is in no area.
+    (
+        Change::Text("ldmap 2", "frames 2101480 5\nldmap 2"),
+        "no F8",
+        1,
+    ),
     // A block of thread-local storage that no section has.
     (Change::Image(THIRD_TYPE, &[7, 0, 0, 0]), "no F9", 1),
     // Another byte between the sections.
@@ -81,10 +87,19 @@ static ROWS: [(Change, &str, u8); 14] = [
         "not judged: --gc-sections",
         5,
     ),
+    // The line of a record of call frames in a section of code.
+    (
+        Change::Text(
+            "ldmap 2",
+            "area 2097384 8\nframes 2097384 8\nframe 0 1 0 5 2097384\nldmap 2",
+        ),
+        "not judged: call frames that can't be judged",
+        5,
+    ),
 ];
 
 /// What is changed, and all that comes of it, where another line is printed or a file isn't read.
-static OTHER_ROWS: [(Change, &str); 12] = [
+static OTHER_ROWS: [(Change, &str); 13] = [
     // An input that is missing.
     (
         Change::Missing("b.o"),
@@ -116,6 +131,10 @@ static OTHER_ROWS: [(Change, &str); 12] = [
     (
         Change::Text("ldmap 2", "note 1 x\nldmap 2"),
         "read a.cert\nout: \nerr: ld-judge: a.cert: line 1 is none of a certificate\n\nstatus 2",
+    ),
+    (
+        Change::Text("ldmap 2", "frames 4096 8\nframe 0 1 0 5\nldmap 2"),
+        "read a.cert\nout: \nerr: ld-judge: a.cert: line 2 is none of a certificate\n\nstatus 2",
     ),
     (
         Change::Text("ldmap 2", "note 4096 8\nldmap 3"),

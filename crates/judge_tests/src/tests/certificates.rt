@@ -168,6 +168,8 @@ fn certificate_of(alloc: Global, row: &Row) -> Result<Certificate, AllocError> {
             alloc,
             &[merged_line(row.merged[0]), merged_line(row.merged[1])],
         )?,
+        list: None,
+        frames: Vec::<MergedLine>::new(alloc),
         names: names_of(alloc, &row.names)?,
         got: None,
     })

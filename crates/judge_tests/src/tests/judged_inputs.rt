@@ -1,5 +1,5 @@
 //! Inputs that leave open what a right link of them is, and such that don't: objects for link-time optimization, arrays that aren't
-//! whole (System V gABI 4, .init_array), what linkers edit (SHF_MERGE, .eh_frame), fields beyond their sections (AMD64 psABI 4.4).
+//! whole (System V gABI 4, .init_array), what linkers edit (SHF_MERGE), fields beyond their sections (AMD64 psABI 4.4).
 ghost use Rattle.check_load.specs.Numbered.{AreNumbered};
 
 use crate::tests::images::{BLOCK, HEADERS};
@@ -12,9 +12,10 @@ use elf_model::{
     DropLine, PlaceLine, ProgramHeader, SHF_ALLOC, SHF_EXECINSTR, SHF_MERGE, SHF_WRITE,
     SHT_PROGBITS, SHT_RELA, SectionHeader,
 };
+use foreign_image::has_frame_table;
 use input_judge::{
     are_arrays_whole, are_compiled, are_fields_apart, are_fields_inside, are_notes_joined,
-    are_unedited, are_unique, has_no_frame_table,
+    are_unedited, are_unique,
 };
 use link_fields::Drops;
 use std::alloc::Global;
@@ -148,21 +149,21 @@ fn arrays_have_whole_entries(rt: HostRuntime) -> Result<(), Fail> {
 }
 
 /// A section: its name, flags and entry size.
-static PLAIN: [(&str, u64, u64); 8] = [
+static PLAIN: [(&str, u64, u64); 9] = [
     (".rodata", SHF_ALLOC, 1),
     (".strings", SHF_ALLOC + SHF_MERGE, 0),
     (".strings", SHF_ALLOC + SHF_MERGE + SHF_WRITE, 1),
     (".rodata.str1.1", SHF_ALLOC + SHF_MERGE, 1),
     (".rodata.cst16", SHF_ALLOC + SHF_MERGE, 16),
     (".lrodata", SHF_ALLOC + SHF_MERGE, 1),
+    (".eh_frame", SHF_ALLOC, 0),
     (".eh_frame_hdr", SHF_ALLOC, 0),
     (".note.gnu.property", SHF_ALLOC, 0),
 ];
 
-static EDITED: [(&str, u64, u64); 4] = [
+static EDITED: [(&str, u64, u64); 3] = [
     (".strings", SHF_ALLOC + SHF_MERGE, 1),
     (".rodatas", SHF_ALLOC + SHF_MERGE, 16),
-    (".eh_frame", SHF_ALLOC, 0),
     (".eh_frame", SHF_ALLOC + SHF_MERGE, 1),
 ];
 
@@ -225,21 +226,21 @@ fn property_notes_have_no_lines(rt: HostRuntime) -> Result<(), Fail> {
     Ok(())
 }
 
-/// No table of frames is judged yet.
+/// The header of a table of call frames is one by its type.
 #[test]
 fn tables_of_frames_are_told(rt: HostRuntime) -> Result<(), Fail> {
     let table = ProgramHeader {
         p_type: 0x6474_e550,
         ..BLOCK
     };
-    assert!(rt; has_no_frame_table(&[HEADERS, BLOCK]));
-    assert!(rt; !has_no_frame_table(&[HEADERS, BLOCK, table]));
-    assert!(rt; !has_no_frame_table(&[table, HEADERS, BLOCK]));
+    assert!(rt; !has_frame_table(&[HEADERS, BLOCK]));
+    assert!(rt; has_frame_table(&[HEADERS, BLOCK, table]));
+    assert!(rt; has_frame_table(&[table, HEADERS, BLOCK]));
     Ok(())
 }
 
 #[test]
-fn strings_of_other_names_and_frames_are_edited(rt: HostRuntime) -> Result<(), Fail> {
+fn strings_of_other_names_are_edited(rt: HostRuntime) -> Result<(), Fail> {
     for row in &PLAIN {
         assert!(rt; is_plain(rt.alloc(), row, (2, 1))?, "{}", row.0);
     }

@@ -110,7 +110,7 @@ const RIGHT: Row = Row {
     judged: Judgement::Yes,
 };
 
-static ROWS: [Row; 20] = [
+static ROWS: [Row; 23] = [
     RIGHT,
     // A name of the linker's with its value, and with another one.
     Row {
@@ -193,7 +193,7 @@ static ROWS: [Row; 20] = [
         judged: Judgement::No(Requirement::F10),
         ..RIGHT
     },
-    // The same where the linker made a table of frames.
+    // The same where a header says that data are a table of call frames.
     Row {
         byte: Some((5, 0x91)),
         segments: [
@@ -206,7 +206,7 @@ static ROWS: [Row; 20] = [
                 ..READ
             },
         ],
-        judged: Judgement::NotJudged(Reason::Frames),
+        judged: Judgement::No(Requirement::F8),
         ..RIGHT
     },
     // Another entry.
@@ -256,12 +256,29 @@ static ROWS: [Row; 20] = [
         judged: Judgement::No(Requirement::F12),
         ..RIGHT
     },
-    // Words for --gc-sections; a file that is missing.
+    // With --gc-sections no section has to go, and all may but those that stay, such as that of the entry. The other requirements are as ever.
     Row {
         words: "-static --gc-sections -o x -e main a.o b.o",
-        judged: Judgement::NotJudged(Reason::Unused),
         ..RIGHT
     },
+    Row {
+        words: "-static --gc-sections -o x -e main a.o b.o",
+        dropped: Some(3),
+        ..RIGHT
+    },
+    Row {
+        words: "-static --gc-sections -o x -e main a.o b.o",
+        dropped: Some(1),
+        judged: Judgement::No(Requirement::F2),
+        ..RIGHT
+    },
+    Row {
+        words: "-static --gc-sections -u second -o x -e main a.o b.o",
+        byte: Some((4, 1)),
+        judged: Judgement::No(Requirement::F10),
+        ..RIGHT
+    },
+    // A file that is missing.
     Row {
         missing: true,
         judged: Judgement::NotJudged(Reason::Unreadable),
@@ -377,6 +394,8 @@ fn certificate(alloc: Global, row: &Row) -> Result<Certificate, AllocError> {
         notes: Vec::<StretchLine>::new(alloc),
         areas: Vec::<StretchLine>::new(alloc),
         merged: Vec::<MergedLine>::new(alloc),
+        list: None,
+        frames: Vec::<MergedLine>::new(alloc),
         names: names(alloc, row)?,
         got: None,
     })

@@ -1,62 +1,262 @@
-//! Sections that a link without --gc-sections has: all but those with SHF_EXCLUDE (ld(1)).
-use crate::tests::sample_objects::{Named, Part, file, loaded, object, words};
-use elf_model::{DropLine, SHF_ALLOC, SHF_EXECINSTR, SHT_PROGBITS};
+//! Sections that a link has: without --gc-sections all but those with SHF_EXCLUDE, with it at least those that stay (ld(1),
+//! --gc-sections; System V gABI 4, "Section Groups", SHF_LINK_ORDER).
+use crate::tests::sample_objects::{Named, Part, file, loaded, object, put};
+use check_link::Names;
+use command::read_words;
+use elf_model::{
+    DropLine, SHF_ALLOC, SHF_EXECINSTR, SHF_LINK_ORDER, SHF_WRITE, SHT_FINI_ARRAY, SHT_GROUP,
+    SHT_INIT_ARRAY, SHT_NOBITS, SHT_NOTE, SHT_PREINIT_ARRAY, SHT_PROGBITS, SHT_RELA,
+};
 use keep_judge::are_sections_kept;
 use link_fields::Drops;
-use std::alloc::Global;
+use std::alloc::{AllocError, Global};
 use std::test::Fail;
 
-/// SHF_EXCLUDE.
+/// SHF_EXCLUDE and SHF_GNU_RETAIN of GNU ld.
 const EXCLUDE: u64 = 0x8000_0000;
+
+const RETAIN: u64 = 0x20_0000;
+
+const CODE: u64 = SHF_ALLOC + SHF_EXECINSTR;
+
+const DATA: u64 = SHF_ALLOC + SHF_WRITE;
+
+const START: Named = Named("_start", 0x12, 1, 0);
 
 /// Code and data, and behind them two sections that no image has.
 static PARTS: [Part; 4] = [
-    Part(".text", SHT_PROGBITS, SHF_ALLOC + SHF_EXECINSTR, 1, 8),
+    Part(".text", SHT_PROGBITS, CODE, 1, 8),
     Part(".rodata", SHT_PROGBITS, SHF_ALLOC, 1, 8),
     Part(".left", SHT_PROGBITS, SHF_ALLOC + EXCLUDE, 1, 8),
     Part(".right", SHT_PROGBITS, SHF_ALLOC + EXCLUDE, 1, 8),
 ];
 
-const LEFT: DropLine = DropLine {
-    object: 0,
-    section: 3,
-};
+/// The lines of sections of the first object that are left out.
+fn lines(alloc: Global, sections: &[u64]) -> Result<Vec<DropLine>, AllocError> {
+    let mut lines = Vec::new(alloc);
+    for section in sections {
+        lines.push(DropLine {
+            object: 0,
+            section: *section,
+        })?;
+    }
+    Ok(lines)
+}
 
-const RIGHT: DropLine = DropLine {
-    object: 0,
-    section: 4,
-};
-
-const TEXT: DropLine = DropLine {
-    object: 0,
-    section: 1,
-};
+/// Whether the sections of an object are right by a line of words, where some are left out.
+fn is_right_by(
+    alloc: Global,
+    bytes: &[u8],
+    line: &str,
+    collects: bool,
+    out: &[u64],
+) -> Result<bool, Fail> {
+    let files = file(alloc, Vec::from_slice(alloc, bytes)?)?;
+    let mut words = Vec::new(alloc);
+    for word in line.split_ascii_whitespace() {
+        words.push(String::from_str(alloc, word)?)?;
+    }
+    let plan = read_words(alloc, &words)?;
+    let named = loaded(alloc, &words, &files)?;
+    let names = Names::new(alloc, &named.objects, named.names)?;
+    let lines = lines(alloc, out)?;
+    Ok(are_sections_kept(alloc, &names, &plan, collects, &Drops::new(&lines))?)
+}
 
 /// Whether the right sections of the object are left out.
-fn is_right(alloc: Global, drops: &Drops<'_>) -> Result<bool, Fail> {
-    let bytes = object(alloc, &PARTS, &[Named("_start", 0x12, 1, 0)])?;
-    let files = file(alloc, bytes)?;
-    let words = words(alloc)?;
-    let named = loaded(alloc, &words, &files)?;
-    Ok(are_sections_kept(alloc, &named.objects, drops)?)
+fn is_right(alloc: Global, out: &[u64]) -> Result<bool, Fail> {
+    let bytes = object(alloc, &PARTS, &[START])?;
+    is_right_by(alloc, &bytes, "a.o", false, out)
 }
 
 #[test]
 fn both_sections_that_no_image_has_are_left_out(rt: HostRuntime) -> Result<(), Fail> {
-    assert!(rt; is_right(rt.alloc(), &Drops::new(&[LEFT, RIGHT]))?);
+    assert!(rt; is_right(rt.alloc(), &[3, 4])?);
     Ok(())
 }
 
 #[test]
 fn sections_that_no_image_has_may_not_be_there(rt: HostRuntime) -> Result<(), Fail> {
-    assert!(rt; !is_right(rt.alloc(), &Drops::new(&[]))?);
-    assert!(rt; !is_right(rt.alloc(), &Drops::new(&[LEFT]))?);
-    assert!(rt; !is_right(rt.alloc(), &Drops::new(&[RIGHT]))?);
+    for out in [[].as_slice(), &[3], &[4]] {
+        assert!(rt; !is_right(rt.alloc(), out)?);
+        let bytes = object(rt.alloc(), &PARTS, &[START])?;
+        assert!(rt; !is_right_by(rt.alloc(), &bytes, "a.o", true, out)?);
+    }
     Ok(())
 }
 
 #[test]
 fn no_other_section_may_be_left_out(rt: HostRuntime) -> Result<(), Fail> {
-    assert!(rt; !is_right(rt.alloc(), &Drops::new(&[TEXT, LEFT, RIGHT]))?);
+    assert!(rt; !is_right(rt.alloc(), &[1, 3, 4])?);
+    assert!(rt; !is_right(rt.alloc(), &[2, 3, 4])?);
+    Ok(())
+}
+
+/// Sections, and whether --gc-sections keeps each for itself.
+static KINDS: [(Part, bool); 18] = [
+    (Part(".text.f", SHT_PROGBITS, CODE, 1, 8), false),
+    (Part(".data.f", SHT_PROGBITS, DATA, 1, 8), false),
+    (Part(".bss.f", SHT_NOBITS, DATA, 1, 8), false),
+    (Part(".initial", SHT_PROGBITS, CODE, 1, 8), false),
+    (Part(".x", 0x7000_0001, SHF_ALLOC, 1, 8), false),
+    (Part(".init", SHT_PROGBITS, CODE, 1, 8), true),
+    (Part(".fini.f", SHT_PROGBITS, CODE, 1, 8), true),
+    (Part(".ctors", SHT_PROGBITS, DATA, 8, 8), true),
+    (Part(".dtors.9", SHT_PROGBITS, DATA, 8, 8), true),
+    (Part(".init_array.7", SHT_PROGBITS, DATA, 8, 8), true),
+    (Part(".fini_array", SHT_PROGBITS, DATA, 8, 8), true),
+    (Part(".preinit_array", SHT_PROGBITS, DATA, 8, 8), true),
+    (Part(".eh_frame", SHT_PROGBITS, SHF_ALLOC, 8, 8), true),
+    (Part(".y", SHT_INIT_ARRAY, DATA, 8, 8), true),
+    (Part(".y", SHT_FINI_ARRAY, DATA, 8, 8), true),
+    (Part(".y", SHT_PREINIT_ARRAY, DATA, 8, 8), true),
+    (Part(".note.y", SHT_NOTE, SHF_ALLOC, 4, 16), true),
+    (Part(".y", 0x6000_0001, SHF_ALLOC, 1, 8), true),
+];
+
+#[test]
+fn sections_stay_by_their_names_and_types(rt: HostRuntime) -> Result<(), Fail> {
+    for (part, stays) in &KINDS {
+        let kept = Part(part.0, part.1, part.2 + RETAIN, part.3, part.4);
+        for (this, wanted) in [(*part, *stays), (kept, true)] {
+            let parts = [PARTS[0], PARTS[1], this, this];
+            let bytes = object(rt.alloc(), &parts, &[START])?;
+            for out in [[3].as_slice(), &[4], &[2, 3], &[3, 4]] {
+                let right = is_right_by(rt.alloc(), &bytes, "a.o", true, out)?;
+                assert!(rt; right != wanted, "{} {}", this.0, out.len());
+            }
+            assert!(rt; is_right_by(rt.alloc(), &bytes, "a.o", true, &[2])?);
+        }
+    }
+    Ok(())
+}
+
+#[test]
+fn definitions_of_root_names_stay(rt: HostRuntime) -> Result<(), Fail> {
+    let parts = [
+        PARTS[0],
+        Part(".text.f", SHT_PROGBITS, CODE, 1, 8),
+        Part(".text.g", SHT_PROGBITS, CODE, 1, 8),
+    ];
+    let symbols = [START, Named("f", 0x12, 2, 0), Named("g", 0x12, 3, 0)];
+    let bytes = object(rt.alloc(), &parts, &symbols)?;
+    let alloc = rt.alloc();
+    assert!(rt; is_right_by(alloc, &bytes, "a.o", true, &[2, 3])?);
+    assert!(rt; !is_right_by(alloc, &bytes, "a.o", true, &[1])?);
+    assert!(rt; is_right_by(alloc, &bytes, "a.o -e f", true, &[1, 3])?);
+    assert!(rt; !is_right_by(alloc, &bytes, "a.o -e f", true, &[1, 2])?);
+    assert!(rt; !is_right_by(alloc, &bytes, "a.o -u f", true, &[2])?);
+    assert!(rt; !is_right_by(alloc, &bytes, "a.o -u f -u g", true, &[3])?);
+    assert!(rt; is_right_by(alloc, &bytes, "a.o -u f -u none", true, &[3])?);
+    Ok(())
+}
+
+/// The offset of the header of a section.
+fn header_of(bytes: &[u8], section: usize) -> Result<usize, Fail> {
+    let number = bytes.get(40..48).ok_or("too short")?;
+    let at = usize::try_from(u64::from_le_bytes(number.try_into()?))?;
+    Ok(at.saturating_add(section.saturating_mul(64)))
+}
+
+/// The offset of a section's bytes.
+fn bytes_of(bytes: &[u8], section: usize) -> Result<usize, Fail> {
+    let from = header_of(bytes, section)?.saturating_add(24);
+    let number = bytes.get(from..from.saturating_add(8)).ok_or("too short")?;
+    Ok(usize::try_from(u64::from_le_bytes(number.try_into()?))?)
+}
+
+#[test]
+fn linked_sections_stay_with_theirs(rt: HostRuntime) -> Result<(), Fail> {
+    let alloc = rt.alloc();
+    let linked = SHF_ALLOC + SHF_LINK_ORDER;
+    let parts = [
+        PARTS[0],
+        Part(".text.f", SHT_PROGBITS, CODE, 1, 8),
+        Part(".of_f", SHT_PROGBITS, linked, 1, 8),
+        Part(".of_start", SHT_PROGBITS, linked, 1, 8),
+    ];
+    let mut bytes = object(alloc, &parts, &[START])?;
+    for (section, to) in [(3, 2), (4, 1)] {
+        let header = header_of(&bytes, section)?;
+        put(&mut bytes, header.saturating_add(40), to, 4);
+    }
+    assert!(rt; is_right_by(alloc, &bytes, "a.o", true, &[])?);
+    assert!(rt; is_right_by(alloc, &bytes, "a.o", true, &[2, 3])?);
+    assert!(rt; !is_right_by(alloc, &bytes, "a.o", true, &[2])?);
+    assert!(rt; !is_right_by(alloc, &bytes, "a.o", true, &[3])?);
+    assert!(rt; !is_right_by(alloc, &bytes, "a.o", true, &[2, 3, 4])?);
+    Ok(())
+}
+
+#[test]
+fn groups_stay_or_go_as_wholes(rt: HostRuntime) -> Result<(), Fail> {
+    let alloc = rt.alloc();
+    let parts = [
+        PARTS[0],
+        Part(".text.f", SHT_PROGBITS, CODE, 1, 8),
+        Part(".data.f", SHT_PROGBITS, DATA, 1, 8),
+        Part(".note.f", SHT_NOTE, SHF_ALLOC, 4, 16),
+        Part(".group", SHT_GROUP, 0, 4, 16),
+        Part(".text.g", SHT_PROGBITS, CODE, 1, 8),
+        Part(".data.g", SHT_PROGBITS, DATA + EXCLUDE, 1, 8),
+        Part(".group", SHT_GROUP, 0, 4, 12),
+    ];
+    let symbols = [START, Named("f", 0x12, 2, 0), Named("g", 0x12, 6, 0)];
+    let mut bytes = object(alloc, &parts, &symbols)?;
+    for (section, signature, members) in [(5, 2, [2, 3, 4].as_slice()), (8, 3, &[6, 7])] {
+        let header = header_of(&bytes, section)?;
+        put(&mut bytes, header.saturating_add(40), 9, 4);
+        put(&mut bytes, header.saturating_add(44), signature, 4);
+        put(&mut bytes, header.saturating_add(56), 4, 8);
+        let mut at = bytes_of(&bytes, section)?;
+        put(&mut bytes, at, 1, 4);
+        for member in members {
+            at = at.saturating_add(4);
+            put(&mut bytes, at, *member, 4);
+        }
+    }
+    assert!(rt; is_right_by(alloc, &bytes, "a.o", true, &[7])?);
+    assert!(rt; is_right_by(alloc, &bytes, "a.o", true, &[2, 3, 4, 7])?);
+    assert!(rt; is_right_by(alloc, &bytes, "a.o", true, &[6, 7])?);
+    assert!(rt; is_right_by(alloc, &bytes, "a.o", true, &[2, 3, 4, 6, 7])?);
+    assert!(rt; !is_right_by(alloc, &bytes, "a.o", true, &[2, 7])?);
+    assert!(rt; !is_right_by(alloc, &bytes, "a.o", true, &[2, 3, 7])?);
+    assert!(rt; !is_right_by(alloc, &bytes, "a.o", true, &[4, 7])?);
+    assert!(rt; !is_right_by(alloc, &bytes, "a.o -u f", true, &[2, 3, 4, 7])?);
+    Ok(())
+}
+
+#[test]
+fn sections_stay_whose_bounds_are_asked_for(rt: HostRuntime) -> Result<(), Fail> {
+    let alloc = rt.alloc();
+    let parts = [
+        PARTS[0],
+        Part("one", SHT_PROGBITS, DATA, 1, 8),
+        Part("two", SHT_PROGBITS, DATA, 1, 8),
+        Part("one", SHT_PROGBITS, DATA, 1, 8),
+        Part(".text.f", SHT_PROGBITS, CODE, 1, 8),
+        Part(".rela.text", SHT_RELA, 0, 8, 24),
+        Part(".rela.text.f", SHT_RELA, 0, 8, 24),
+    ];
+    let symbols = [
+        START,
+        Named("__stop_one", 0x10, 0, 0),
+        Named("__start_two", 0x10, 0, 0),
+    ];
+    let mut bytes = object(alloc, &parts, &symbols)?;
+    for (section, target, symbol) in [(6, 1, 2), (7, 5, 3)] {
+        let header = header_of(&bytes, section)?;
+        put(&mut bytes, header.saturating_add(40), 8, 4);
+        put(&mut bytes, header.saturating_add(44), target, 4);
+        put(&mut bytes, header.saturating_add(56), 24, 8);
+        let entry = bytes_of(&bytes, section)?.saturating_add(8);
+        put(&mut bytes, entry, 2, 4);
+        put(&mut bytes, entry.saturating_add(4), symbol, 4);
+    }
+    assert!(rt; is_right_by(alloc, &bytes, "a.o", true, &[])?);
+    assert!(rt; is_right_by(alloc, &bytes, "a.o", true, &[3, 5])?);
+    assert!(rt; !is_right_by(alloc, &bytes, "a.o", true, &[3])?);
+    assert!(rt; !is_right_by(alloc, &bytes, "a.o", true, &[2, 3, 5])?);
+    assert!(rt; !is_right_by(alloc, &bytes, "a.o", true, &[4, 5])?);
     Ok(())
 }

@@ -421,6 +421,8 @@ fn certificate(alloc: Global, row: &Row) -> Result<Certificate, AllocError> {
         notes: Vec::<StretchLine>::new(alloc),
         areas: areas(alloc, row)?,
         merged: merged(alloc, row)?,
+        list: None,
+        frames: Vec::<MergedLine>::new(alloc),
         names: Vec::<NameLine>::new(alloc),
         got: None,
     })

@@ -73,7 +73,7 @@ fn add(draft: &mut Draft, name: &str, header: SectionHeader, bytes: &[u8]) -> Re
 }
 
 fn add_parts(draft: &mut Draft, parts: &[Part]) -> Result<(), Fail> {
-    let zeros = [0; 32];
+    let zeros = [0; 128];
     for part in parts {
         let header = SectionHeader {
             sh_type: part.1,
@@ -187,7 +187,7 @@ pub fn loaded<'a>(
     ensures { IfOk result (λ n. AreNumbered n.names n.objects.items) }
 {
     let plan = read_words(alloc, words)?;
-    match open_named(alloc, &plan, files, None)? {
+    match open_named(alloc, &plan, &[], files, None)? {
         Some(named) => Ok(named),
         None => Err(Fail::from("no object")),
     }

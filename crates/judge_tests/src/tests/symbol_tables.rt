@@ -135,8 +135,9 @@ const TABLE: [Entry; 15] = [
 const LOCALS: u32 = 6;
 
 /// Another entry at a number, with which the table is right: no type; no section; a linker's name in any section, as an object, and with
-/// a size; an object in a section that has nothing in any section too; no thread-local object; the first entry may be any LOCAL one.
-static RIGHT: [(usize, Entry); 10] = [
+/// a size; an object in a section that has nothing in any section too; no thread-local object; the first entry may be any LOCAL one; a LOCAL
+/// entry of what nothing defines.
+static RIGHT: [(usize, Entry); 11] = [
     (6, Entry("main", 0x10, 1, 0x20_10e8, 0)),
     (6, Entry("main", 0x12, ABSOLUTE, 0x20_10e8, 0)),
     (5, Entry("helper", 0x00, 1, 0x20_10ea, 0)),
@@ -147,12 +148,13 @@ static RIGHT: [(usize, Entry); 10] = [
     (8, Entry("nothing", 0x11, 4, 0x20_10f4, 0)),
     (11, Entry("main", 0x12, 1, 0x20_10e8, 0)),
     (0, Entry("main", 0x00, 7, 5, 9)),
+    (5, Entry("maybe", 0x00, 0, 0, 0)),
 ];
 
 /// One with which it isn't: another value, size, type, binding, section, the value of another definition; a LOCAL name with the
 /// value of another name; another address of a LOCAL name, a LOCAL name that isn't LOCAL here; a number in a section
 /// that takes up no memory.
-static WRONG: [(usize, Entry); 29] = [
+static WRONG: [(usize, Entry); 31] = [
     (6, Entry("main", 0x12, 1, 0x20_10e9, 0)),
     (6, Entry("main", 0x12, 1, 0x20_10e8, 1)),
     (6, Entry("main", 0x11, 1, 0x20_10e8, 0)),
@@ -176,6 +178,8 @@ static WRONG: [(usize, Entry); 29] = [
     (12, Entry("number", 0x10, 5, 77, 0)),
     (8, Entry("nothing", 0x11, 0, 0x20_10f4, 0)),
     (8, Entry("nothing", 0x11, 7, 0x20_10f4, 0)),
+    (5, Entry("maybe", 0x00, 0, 1, 0)),
+    (5, Entry("counter", 0x00, 0, 0, 0)),
     (13, Entry("maybe", 0x20, 0, 1, 0)),
     (13, Entry("maybe", 0x10, 0, 0, 0)),
     (13, Entry("counter", 0x20, 0, 0, 0)),

@@ -14,10 +14,10 @@ returns-in-Ok-clause-said g c words spoken said = record {
 }
 
 pub returns-in-Ok-clause-right : goal.returns-in-Ok-clause-right
-returns-in-Ok-clause-right g c words spoken said plan asked keeps =
+returns-in-Ok-clause-right g c words spoken said plan asked =
     let given = c.args.given.now in
     let both = right_where_shown words (files_of given.files.items) given.image.items (certificate_of given.certificate) c.in-Ok.opinion
-    (c.in-Ok.ensures words spoken) plan asked keeps in
+    (c.in-Ok.ensures words spoken) plan asked in
     (λ zero. both.0 (sym c.tell.ensures.status ∙ zero), λ shown. c.tell.ensures.status ∙ both.1 shown)
 
 pub returns-in-Err-clause-fault : goal.returns-in-Err-clause-fault

@@ -15,5 +15,5 @@ returns c =
     ap (map place_row) c.deref.ensures.value ∙ ap (λ (x : ForeignLink). x.certificate.places) (c.claim.view_is ∙ c.claim-claim.ensures) in
     let keys : c.new.result ≡ map key_of l.certificate.places = c.new.ensures ∙ (c.deref-2.ensures.value ∙ (c.in_ok-keys.ensures.keys ∙ ap (map key_of) lines)) in
     subst (λ (ps : List Piece). IfOk c.plain_among.result (λ v. piece_views v.items ≡ ps))
-    ((λ j. filter (is_plain_by (keys j)) (c.pieces.ensures j)) ∙ plain_found l c.requires.unedited)
+    ((λ j. filter (is_plain_by (keys j)) (c.pieces.ensures j)) ∙ plain_found l)
     c.plain_among.ensures

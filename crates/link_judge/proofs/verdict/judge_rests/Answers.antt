@@ -1,8 +1,7 @@
 use Rattle.std.proofs.Common.{◌∙◌, refl, sym, subst}
 use Rattle.std.proofs.lemmas.Bool.{false≢true}
 use Rattle.judge_model.specs.RightForeign.{Holds}
-use Rattle.judge_model.specs.declared.judgement.Requirement.TheVariants.{F7, F8, F9, F10}
-use Rattle.link_judge.specs.Judged.{HoldsBefore}
+use Rattle.judge_model.specs.declared.judgement.Requirement.TheVariants.{F7, F8}
 use Rattle.link_judge.proofs.Requirements.{before_next}
 use Rattle.link_judge.proofs.verdict.judge_rests.Goals as goal
 
@@ -10,17 +9,5 @@ pub no_code-requires-clause-fails : goal.no_code-requires-clause-fails
 no_code-requires-clause-fails c = λ h.
     false≢true (sym c.if-not-branch.true ∙ c.in_ok-holds.ensures.1 (subst (Holds F7) c.placed-then-not-branch.ensures h))
 
-pub no-requires-clause-before : goal.no-requires-clause-before
-no-requires-clause-before c =
-    let l = c.args.bound.now in
-    let ninth =
-    before_next l F8 F9 refl (before_next l F7 F8 refl c.requires.before (c.in_ok-holds.ensures.0 c.if-not-branch.false)) tt in
-    subst (HoldsBefore F9) (sym (c.claim-claim.ensures ∙ c.placed.ensures)) ninth
-
-pub no-requires-then-not-branch-2-clause-before : goal.no-requires-then-not-branch-2-clause-before
-no-requires-then-not-branch-2-clause-before c =
-    let l = c.args.bound.now in
-    let ninth =
-    before_next l F8 F9 refl (before_next l F7 F8 refl c.requires.before (c.in_ok-holds.ensures.0 c.if-not-branch.false)) tt in
-    let threads = subst (Holds F9) c.placed-2.ensures (c.holds-2.ensures.0 c.if-not-holds.false) in
-    subst (HoldsBefore F10) (sym (c.claim-claim.ensures ∙ c.placed.ensures)) (before_next l F9 F10 refl ninth threads)
+pub judge_frames-requires-clause-before : goal.judge_frames-requires-clause-before
+judge_frames-requires-clause-before c = before_next c.args.bound.now F7 F8 refl c.requires.before (c.in_ok-holds.ensures.0 c.if-not-branch.false)

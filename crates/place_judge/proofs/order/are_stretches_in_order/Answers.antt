@@ -22,13 +22,23 @@ returns-then-not-are_stretches_rising-2 c = (
       ∙ c.are_stretches_rising-2.ensures.1 (subst (λ (xs : List StretchLine). Ascends StretchBefore xs) (sym c.deref-2.ensures.value) r.areas),
 )
 
+pub returns-then-not-are_merged_rising : goal.returns-then-not-are_merged_rising
+returns-then-not-are_merged_rising c = (
+  λ t. absurd (false≢true t),
+  λ r.
+      sym c.if-not-are_merged_rising.true
+      ∙ c.are_merged_rising.ensures.1 (subst (λ (xs : List MergedLine). Ascends MergedBefore xs) (sym c.deref-3.ensures.value) r.merged),
+)
+
 pub returns : goal.returns
 returns c = (
   λ t. record {
     notes = subst (λ (xs : List StretchLine). Ascends StretchBefore xs) c.deref.ensures.value (c.are_stretches_rising.ensures.0 c.if-not-are_stretches_rising.false);
     areas =
         subst (λ (xs : List StretchLine). Ascends StretchBefore xs) c.deref-2.ensures.value (c.are_stretches_rising-2.ensures.0 c.if-not-are_stretches_rising-2.false);
-    merged = subst (λ (xs : List MergedLine). Ascends MergedBefore xs) c.deref-3.ensures.value (c.are_merged_rising.ensures.0 t);
+    merged =
+        subst (λ (xs : List MergedLine). Ascends MergedBefore xs) c.deref-3.ensures.value (c.are_merged_rising.ensures.0 c.if-not-are_merged_rising.false);
+    frames = subst (λ (xs : List MergedLine). Ascends MergedBefore xs) c.deref-4.ensures.value (c.are_merged_rising-2.ensures.0 t);
   },
-  λ r. c.are_merged_rising.ensures.1 (subst (λ (xs : List MergedLine). Ascends MergedBefore xs) (sym c.deref-3.ensures.value) r.merged),
+  λ r. c.are_merged_rising-2.ensures.1 (subst (λ (xs : List MergedLine). Ascends MergedBefore xs) (sym c.deref-4.ensures.value) r.frames),
 )

@@ -27,7 +27,8 @@ returns c = (
         notes = stretches.notes;
         areas = stretches.areas;
         merged = stretches.merged;
+        frames = stretches.frames;
         names = texts.names;
       },
-  λ r. c.are_stretches_in_order.ensures.1 (record { notes = r.notes; areas = r.areas; merged = r.merged }),
+  λ r. c.are_stretches_in_order.ensures.1 (record { notes = r.notes; areas = r.areas; merged = r.merged; frames = r.frames }),
 )

@@ -1,0 +1,3 @@
+pub mod AlikeLaws
+pub mod FrameLaws
+pub mod ReadingLaws

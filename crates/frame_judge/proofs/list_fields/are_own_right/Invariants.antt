@@ -1,0 +1,13 @@
+use Rattle.std.proofs.Common.{map}
+use Rattle.std.specs.Prelude.{All}
+use Rattle.check_load.specs.KeptRelocations.{relocation_at}
+use Rattle.check_load.specs.Views.{loaded_view}
+use Rattle.elf_model.proofs.Rests.{Left}
+use Rattle.elf_model.specs.Link.Relocation.{relocations_from}
+use Rattle.frame_judge.specs.Held.{IsRightUnlessOut}
+use Rattle.frame_judge.proofs.list_fields.are_own_right.Given as goal
+
+abbrev pub invariant-loop-relocation : goal.invariant-loop-relocation
+invariant-loop-relocation l =
+    Left (All (IsRightUnlessOut l.parts l.taken l.framed l.lines l.drops) (relocations_from l.number (loaded_view l.loaded)))
+    (All (IsRightUnlessOut l.parts l.taken l.framed l.lines l.drops) (map (relocation_at l.number (loaded_view l.loaded)) l.relocation-iterator))
