@@ -1,3 +1,5 @@
 pub mod Caused
-pub mod Seconds
-pub mod Twice
+pub mod FlawPlaces
+pub mod PairedPlaces
+pub mod ReferencePlaces
+pub mod Told

@@ -1,4 +1,4 @@
+pub mod Flawed
 pub mod Hints
 pub mod Notes
 pub mod Places
-pub mod Strong

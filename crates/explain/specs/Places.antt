@@ -36,7 +36,6 @@ use Rattle.input_names.specs.RelocationPlaces.{IsOverlap, IsRelocationAt}
 use Rattle.input_names.specs.declared.relocation_places.RelocationPlace.{RelocationPlace}
 use Rattle.got_tls.specs.Views.{Got}
 use Rattle.layout.specs.Kinds.{IsLawfulIfKept}
-use Rattle.layout.specs.Mixed.{AreMixed}
 use Rattle.layout.specs.Placements.{Basis}
 use Rattle.relocate.specs.References.{IsUnlawful}
 use Rattle.relocate.specs.declared.faults.RelocationFault.{RelocationFault}
@@ -95,7 +94,7 @@ abbrev pub HoldsIn : LoadedPlan → Place → Type 0
 HoldsIn l (place.Section f p) = IsLoadedAt l.objects p.object f (λ o. IsSectionOf o p × (¬ IsLawfulIfKept o p.number p.entry))
 HoldsIn l (place.Large f p) = IsLoadedAt l.objects p.object f (λ o. IsSectionOf o p × (is_kept o p.number p.entry ≡ true) × (2 ^ 46 < l.plan.base + p.entry.sh_size))
 HoldsIn l (place.Symbol f p fault) = IsLoadedAt l.objects p.object f (λ o. IsSymbolOf o p × IsSymbolWrong l.objects (symbol_of p.object o p.number p.entry) fault)
-HoldsIn l (place.Relocation f p fault) = IsLoadedAt l.objects p.object f (λ _. IsWrongRelocation l.objects p fault)
+HoldsIn l (place.Relocation f p fault others) = IsLoadedAt l.objects p.object f (λ _. IsWrongRelocation l.objects p fault)
 HoldsIn l (place.Overlap f p q) = IsLoadedAt l.objects p.object f (λ _. IsOverlap l.objects p q)
 HoldsIn l (place.Value f p value address) = IsLoadedAt l.objects p.object f (λ _. IsUnfit (basis_of l) p value address)
 HoldsIn l (place.Entry name) = (name.now ≡ l.plan.entry) × (¬ IsEntry l.objects l.plan.entry)
@@ -110,13 +109,10 @@ pub record AreValued (l : LoadedPlan) (objects : List LoadedObject) (b : Basis) 
   pub slots_of : slots.objects ≡ l.objects
   pub pointer_is : pointer ≡ pointer_in (where_in b)
 
--- the base is one, a name whose definitions are asked for has two, and what is known of the objects is
+-- the base is one, and what is known of the objects is
 abbrev pub MayBeAsked : LoadedPlan → Wanted → Type 0
 MayBeAsked l wanted.LargeSections = IsBase l.plan.base
-MayBeAsked l (wanted.Definitions name) = IsDuplicate l.objects name.now
-MayBeAsked l (wanted.UnlawfulEntries resolved mixed) = (resolved.now ≡ l.objects) × AreMixed resolved.now mixed.now
 MayBeAsked l (wanted.UnfitEntries resolved placement slots pointer) = AreValued l resolved.now placement.now slots.now pointer
-MayBeAsked l _ = Unit {0}
 
 -- an opened item is that of a plan that has its number
 abbrev pub IsOpened : List File → Plan → OpenedItem → Type 0
@@ -209,12 +205,12 @@ CauseOf files words (place.Symbol o p symbol_fault.BadCommon) = Cause files word
 CauseOf files words (place.Symbol o p symbol_fault.BadSymbol) = Cause files words error.BadSymbol
 CauseOf files words (place.Symbol o p symbol_fault.Duplicate) =
     (plan : Plan) × HasObjects files words plan × IsDuplicate (loaded_objects files plan) p.name.now
-CauseOf files words (place.Relocation o p wrong.Undefined) = AnyRelocation files words (IsUndefinedName p.symbol_name.now)
-CauseOf files words (place.Relocation o p wrong.RefToDropped) = Cause files words error.RefToDropped
-CauseOf files words (place.Relocation o p wrong.RelocKind) = Cause files words error.RelocKind
-CauseOf files words (place.Relocation o p wrong.FieldOutside) = Cause files words error.FieldOutside
-CauseOf files words (place.Relocation o p wrong.TlsMismatch) = Cause files words error.TlsMismatch
-CauseOf files words (place.Relocation o p wrong.MixedSection) = Cause files words error.MixedSection
+CauseOf files words (place.Relocation o p wrong.Undefined others) = AnyRelocation files words (IsUndefinedName p.symbol_name.now)
+CauseOf files words (place.Relocation o p wrong.RefToDropped others) = Cause files words error.RefToDropped
+CauseOf files words (place.Relocation o p wrong.RelocKind others) = Cause files words error.RelocKind
+CauseOf files words (place.Relocation o p wrong.FieldOutside others) = Cause files words error.FieldOutside
+CauseOf files words (place.Relocation o p wrong.TlsMismatch others) = Cause files words error.TlsMismatch
+CauseOf files words (place.Relocation o p wrong.MixedSection others) = Cause files words error.MixedSection
 CauseOf files words (place.Overlap o p q) = Cause files words error.OverlappingFields
 CauseOf files words (place.Value o p value address) = Cause files words error.Overflow
 CauseOf files words (place.Entry name) = Cause files words error.NoEntry
@@ -227,8 +223,11 @@ Given files words (place.Archive p f) = (plan : Plan) × HasFiles files words pl
 Given files words (place.NoIndex p) = (plan : Plan) × HasFiles files words plan
 Given files words (place.Object p f part) = Unit {0}
 Given files words (place.Groups p f) = Unit {0}
-Given files words (place.Symbol o p symbol_fault.Duplicate) = (plan : Plan) × HasObjects files words plan
-Given files words (place.Relocation o p f) = (plan : Plan) × IsResolved files words plan
+Given files words (place.Section o p) = (plan : Plan) × HasObjects files words plan
+Given files words (place.Symbol o p fault) = (plan : Plan) × HasObjects files words plan
+Given files words (place.Relocation o p f others) = (plan : Plan) × IsResolved files words plan
+Given files words (place.Overlap o p q) = (plan : Plan) × IsResolved files words plan
+Given files words (place.Entry name) = (plan : Plan) × IsResolved files words plan
 Given files words p = CauseOf files words p
 
 -- a place is told of an error: where this one has its cause, that is known

@@ -26,18 +26,17 @@ pub struct Hint<'a> {
 /// The name that a place asks for, where no object defines it.
 pub(crate) fn undefined_name<'a>(place: &Place<'a>) -> Option<&'a [u8]> {
     match place {
-        Place::Relocation(_, place, RelocationFault::Undefined) => Some(place.symbol_name),
+        Place::Relocation(_, place, RelocationFault::Undefined, _) => Some(place.symbol_name),
         _ => None,
     }
 }
 
-/// The first names that places ask for, each once.
+/// The first names that places ask for; no two ask for one.
 fn undefined_names<'a>(alloc: Global, places: &[Place<'a>]) -> Result<Vec<&'a [u8]>, AllocError> {
     let mut names = Vec::new(alloc);
     for place in places {
         if let Some(name) = undefined_name(place)
             && names.len() < NAMES
-            && !names.contains(&name)
         {
             names.push(name)?;
         }

@@ -3,8 +3,8 @@
 //! Begin with `explain`.
 #![tactic(auto)]
 
-mod duplicates;
 mod files;
+mod flaw_places;
 mod hint_text;
 mod hints;
 mod lines;
@@ -12,6 +12,7 @@ mod link;
 mod note_text;
 mod notes;
 mod place;
+mod reference_places;
 mod source_lines;
 mod text;
 mod unlike_sections;

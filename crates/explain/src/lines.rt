@@ -1,4 +1,4 @@
-//! The lines of an explanation: a line a place, and of an undefined name no more than three references.
+//! The lines of an explanation: a line a place, and what is told beside it.
 
 use crate::hint_text::write_hint;
 use crate::hints::undefined_name;
@@ -13,21 +13,11 @@ use elf_read::ObjectFile;
 use input_names::Name;
 use opening::{FileSet, find_source};
 use std::alloc::{AllocError, Global};
-use std::collections::BTreeMap;
 use std::io;
 use std::io::Write;
 
-/// How many references to an undefined name are told.
-const REFERENCES: usize = 3;
-
 /// The symbol of an object that gcc makes by -flto without -ffat-lto-objects.
 const SLIM: &[u8] = b"__gnu_lto_slim";
-
-/// How many of some places ask for an undefined name.
-fn references(places: &[Place<'_>], name: &[u8]) -> usize {
-    let names = places.iter().filter_map(undefined_name);
-    names.filter(|other| *other == name).count()
-}
 
 /// Whether the index of an archive has a name.
 fn has_name(alloc: Global, file: &[u8], name: &[u8]) -> Result<bool, AllocError> {
@@ -67,27 +57,31 @@ fn write_passed_archive<W: Write>(out: &mut W, inputs: Inputs<'_>, name: &[u8]) 
     Ok(())
 }
 
-/// Writes a place, and what is told beside it. Behind the first reference to an undefined name it says which archive has the name and which defined name is
-/// like it, behind the third one how many more there are.
+/// Writes how many references to the name of an undefined one there are beside it; nothing where there are none.
+fn write_others<W: Write>(out: &mut W, place: &Place<'_>) -> io::Result<()> {
+    match place {
+        Place::Relocation(_, _, _, 1) => out.write_all(b"; and 1 more reference to it"),
+        Place::Relocation(_, _, _, others) if *others > 1 => {
+            write!(out, "; and {others} more references to it")
+        }
+        _ => Ok(()),
+    }
+}
+
+/// Writes a place, and what is told beside it: behind the reference to an undefined name which archive has the name, which
+/// defined name is like it, and how many more references there are.
 fn write_line<W: Write>(
     out: &mut W,
     inputs: Inputs<'_>,
     found: &Found<'_>,
     place: &Place<'_>,
-    before: usize,
 ) -> io::Result<()> {
     write!(out, "{}", PlaceText { inputs, place })?;
     write_note(out, inputs, &found.notes, place)?;
     if let Some(name) = undefined_name(place) {
-        if before == 0 {
-            write_passed_archive(out, inputs, name)?;
-            write_hint(out, inputs, &found.hints, name)?;
-        }
-        let rest = references(&found.places, name).saturating_sub(REFERENCES);
-        if before.saturating_add(1) == REFERENCES && rest > 0 {
-            let ending = if rest == 1 { "" } else { "s" };
-            write!(out, "; and {rest} more reference{ending} to it")?;
-        }
+        write_passed_archive(out, inputs, name)?;
+        write_hint(out, inputs, &found.hints, name)?;
+        write_others(out, place)?;
     }
     out.write_all(b"\n")
 }
@@ -101,20 +95,6 @@ fn asks_for_code(place: &Place<'_>) -> bool {
 fn is_slim(alloc: Global, file: &InputFile) -> bool {
     let object = ObjectFile::read(alloc, View::new(file.bytes.as_slice()));
     object.is_ok_and(|object| (0..object.symbols().len()).any(|j| object.symbol_name(j) == SLIM))
-}
-
-/// How many places were counted that ask for a name; one more is counted.
-fn counted<'n>(
-    counts: &mut BTreeMap<&'n [u8], usize>,
-    name: &'n [u8],
-) -> Result<usize, AllocError> {
-    if let Some(count) = counts.get_mut(&name) {
-        let before = *count;
-        *count = before.saturating_add(1);
-        return Ok(before);
-    }
-    counts.insert(name, 1)?;
-    Ok(0)
 }
 
 /// Writes how many places there are beside those that are written; nothing where there are none.
@@ -139,33 +119,18 @@ fn write_slim<W: Write>(out: &mut W, inputs: Inputs<'_>) -> io::Result<()> {
     Ok(())
 }
 
-/// Writes the places that were found, at most so many lines, and how many more places there are. Of references to one undefined
-/// name three are told, with the number of the others. Where a definition is missing, a line more for each object file that has
-/// no code of its own.
+/// Writes the places that were found, a line each, and how many more there are. Where a definition is missing, a line more for
+/// each object file that has no code of its own.
 pub fn write_places<W: Write>(
     out: &mut W,
     inputs: Inputs<'_>,
     found: &Found<'_>,
-    most: u64,
 ) -> io::Result<()> {
-    let places = found.places.as_slice();
-    let mut counts = BTreeMap::new(inputs.alloc);
-    let mut lines: u64 = 0;
-    let mut more = found.more;
-    for place in places {
-        let before = match undefined_name(place) {
-            Some(name) => counted(&mut counts, name)?,
-            None => 0,
-        };
-        if lines >= most {
-            more = more.saturating_add(1);
-        } else if before < REFERENCES {
-            write_line(out, inputs, found, place, before)?;
-            lines = lines.saturating_add(1);
-        }
+    for place in &found.places {
+        write_line(out, inputs, found, place)?;
     }
-    write_more(out, more)?;
-    if places.iter().any(asks_for_code) {
+    write_more(out, found.more)?;
+    if found.places.iter().any(asks_for_code) {
         write_slim(out, inputs)?;
     }
     Ok(())

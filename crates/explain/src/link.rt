@@ -1,28 +1,35 @@
 //! Why a link is refused, phase by phase.
-ghost use Rattle.std.specs.Prelude.{◌≡◌, ◌<◌, ◌≤◌, All, IfOk, OnOk, length};
+ghost use Rattle.std.specs.Prelude.{◌≡◌, ◌<◌, ◌≤◌, ◌↔◌, All, IfOk, IsTrue, OnOk, length};
 ghost use Rattle.elf_model.specs.Own.Causes.{Cause};
 ghost use Rattle.elf_model.specs.Inputs.Command.{IsBase};
 ghost use Rattle.elf_model.specs.Inputs.Files.{files_of, words_of};
 ghost use Rattle.elf_model.specs.Link.Pieces.{AreLawfulKinds};
+ghost use Rattle.resolve.specs.declared.faults.ResolveFault.TheVariants as resolve_fault;
+ghost use Rattle.search.specs.declared.faults.SearchFault.TheVariants as search_fault;
+ghost use Rattle.flaws.specs.Flaws.{AreResolvable};
+ghost use Rattle.wrong_references.specs.References.{AreReferable};
+ghost use Rattle.explain.specs.Flawed.{IsOfReferences, IsOfResolution, TellsReferences, TellsReferencesOf, TellsResolution, TellsResolutionOf, TellsUnreferable, TellsUnresolvable};
 ghost use Rattle.explain.specs.Hints.{IsHintOf};
 ghost use Rattle.explain.specs.Notes.{IsNote, IsNoteOf};
 ghost use Rattle.explain.specs.Places.{AreSo, Ground, Holds, OfLoaded, Says};
 
-use crate::duplicates::add_other_duplicates;
 use crate::files::add_unloaded;
+use crate::flaw_places::tell_resolution;
 use crate::hints::{Hint, hints_of};
 use crate::notes::{Note, notes_of};
-use crate::place::{Found, Place};
+use crate::place::{Added, Found, Place};
+use crate::reference_places::tell_references;
 use crate::wanted::{Wanted, add_wanted};
 use command::{Plan, read_words, refused_word};
 use elf_model::{CmdFault, InputFile, LinkError, NameSeed};
 use got_tls::slots;
-use layout::{LayoutFault, kinds, mixed_names, place};
-use relocate::{RelocFault, pointer_of, references};
+use layout::{LayoutFault, kinds, place};
+use relocate::pointer_of;
 use resolve::{ResolveFault, Resolved, resolve_in};
-use search::{Loaded, load_seeded};
+use search::{Loaded, SearchFault, load_seeded};
 use std::alloc::{AllocError, Global};
 use symbols::IndexedTable;
+use wrong_references::reference_flaws;
 
 /// What is told beside places.
 #[derive(Drop)]
@@ -44,8 +51,28 @@ impl Beside<'_> {
     }
 }
 
-/// Adds why what is loaded, whose names are resolved, isn't linked: by its references, its entry, its layout, or its values.
-/// Answers what is told beside.
+/// Adds why what is loaded, whose references are right, isn't linked: by its layout, or its values.
+fn add_unplaced<'a>(found: &mut Found<'a>, loaded: &Loaded<'a>, resolved: &Resolved<'a>) -> Added
+    requires resolved { resolved.now ≡ loaded.now.objects }
+    requires base { IsBase loaded.now.plan.base }
+    requires kinds { AreLawfulKinds loaded.now.objects }
+    requires before { AreSo (OfLoaded loaded.now) found.old.places.items }
+    ensures { OnOk result (AreSo (OfLoaded loaded.now) found.new.places.items) }
+{
+    let alloc = found.alloc;
+    let slots = slots(alloc, loaded, resolved)?;
+    match place(alloc, loaded, resolved, slots.got(), loaded.plan().base) {
+        Ok(placement) => {
+            let pointer = pointer_of(&placement);
+            let wanted = Wanted::UnfitEntries(resolved, &placement, &slots, pointer);
+            add_wanted(found, wanted, loaded)
+        }
+        Err(LayoutFault::Memory) => Err(AllocError),
+        Err(_) => add_wanted(found, Wanted::LargeSections, loaded),
+    }
+}
+
+/// Adds why what is loaded, whose names are resolved, isn't linked. Answers what is told beside.
 fn add_unlinked<'a>(
     found: &mut Found<'a>,
     loaded: &Loaded<'a>,
@@ -57,37 +84,27 @@ fn add_unlinked<'a>(
     requires before { AreSo (OfLoaded loaded.now) found.old.places.items }
     ensures places { OnOk result (AreSo (OfLoaded loaded.now) found.new.places.items) }
     ensures notes { IfOk result (λ ns. All (IsNote loaded.now) ns.items) }
+    ensures references { OnOk result
+        ((AreReferable loaded.now.objects loaded.now.plan.entry → ⊥)
+        → TellsReferencesOf loaded.now.objects loaded.now.plan.entry found.old.most
+        found.new.places.items found.new.more) }
 {
     let alloc = found.alloc;
-    match references(alloc, loaded, resolved) {
-        Ok(_) => {}
-        Err(RelocFault::Memory) => return Err(AllocError),
-        Err(RelocFault::OverlappingFields) => {
-            add_wanted(found, Wanted::Overlaps, loaded)?;
-            return Ok(Vec::new(alloc));
-        }
-        Err(_) => {
-            let mixed = mixed_names(alloc, resolved)?;
-            add_wanted(found, Wanted::UnlawfulEntries(resolved, &mixed), loaded)?;
-            return notes_of(alloc, loaded, resolved, &found.places);
-        }
-    }
-    let entry = loaded.plan().entry;
-    if resolved.entry(entry.as_bytes()).is_none() {
-        found.add(Some(Place::Entry(entry)))?;
+    let flaws = reference_flaws(alloc, loaded, resolved)?;
+    if flaws.is_empty() {
+        add_unplaced(found, loaded, resolved)?;
         return Ok(Vec::new(alloc));
     }
-    let slots = slots(alloc, loaded, resolved)?;
-    match place(alloc, loaded, resolved, slots.got(), loaded.plan().base) {
-        Ok(placement) => {
-            let pointer = pointer_of(&placement);
-            let wanted = Wanted::UnfitEntries(resolved, &placement, &slots, pointer);
-            add_wanted(found, wanted, loaded)?;
-        }
-        Err(LayoutFault::Memory) => return Err(AllocError),
-        Err(_) => add_wanted(found, Wanted::LargeSections, loaded)?,
-    }
-    Ok(Vec::new(alloc))
+    tell_references(found, loaded, &flaws)?;
+    let notes = notes_of(alloc, loaded, resolved, &found.places)?;
+    Ok(notes)
+}
+
+/// Whether names aren't resolved for want of memory.
+fn lacks_memory(fault: &ResolveFault) -> bool
+    ensures { IsTrue result ↔ (fault.now ≡ resolve_fault.Memory) }
+{
+    matches!(fault, ResolveFault::Memory)
 }
 
 /// Adds why what is loaded isn't linked. Answers what is told beside.
@@ -96,24 +113,37 @@ fn add_loaded<'a>(found: &mut Found<'a>, loaded: &Loaded<'a>) -> Result<Vec<Note
     requires before { AreSo (OfLoaded loaded.now) found.old.places.items }
     ensures places { OnOk result (AreSo (OfLoaded loaded.now) found.new.places.items) }
     ensures notes { IfOk result (λ ns. All (IsNote loaded.now) ns.items) }
+    ensures resolution { OnOk result ((AreResolvable loaded.now.objects → ⊥)
+        → TellsResolutionOf loaded.now.objects found.old.most
+        found.new.places.items found.new.more) }
+    ensures references { OnOk result (AreResolvable loaded.now.objects
+        → (AreReferable loaded.now.objects loaded.now.plan.entry → ⊥)
+        → TellsReferencesOf loaded.now.objects loaded.now.plan.entry found.old.most
+        found.new.places.items found.new.more) }
 {
     let alloc = found.alloc;
     let Ok(()) = kinds(loaded) else {
-        add_wanted(found, Wanted::UnlawfulSections, loaded)?;
+        tell_resolution(found, loaded)?;
         return Ok(Vec::new(alloc));
     };
     let table = IndexedTable::with_hasher(alloc, loaded.name_seed());
     match resolve_in(alloc, loaded, table) {
         Ok(resolved) => return add_unlinked(found, loaded, &resolved),
-        Err(ResolveFault::Memory) => return Err(AllocError),
-        Err(ResolveFault::BadCommon) => add_wanted(found, Wanted::UnsoundCommons, loaded)?,
-        Err(ResolveFault::BadSymbol) => add_wanted(found, Wanted::UnsoundSymbols, loaded)?,
-        Err(ResolveFault::Duplicate(name)) => {
-            add_wanted(found, Wanted::Definitions(&name), loaded)?;
-            add_other_duplicates(found, loaded, &name)?;
+        Err(fault) => {
+            if lacks_memory(&fault) {
+                return Err(AllocError);
+            }
+            tell_resolution(found, loaded)?;
         }
     }
     Ok(Vec::new(alloc))
+}
+
+/// Whether a fault of loading is want of memory.
+fn is_memory(fault: SearchFault) -> bool
+    ensures { IsTrue result ↔ (fault ≡ search_fault.Memory) }
+{
+    matches!(&fault, SearchFault::Memory)
 }
 
 /// Adds why the link of files that words name is refused, and answers what is told beside.
@@ -124,6 +154,10 @@ fn add_reasons<'a>(
     seed: NameSeed,
 ) -> Result<Beside<'a>, AllocError>
     requires { (g : Ground) → AreSo g found.old.places.items }
+    ensures resolution { OnOk result (TellsUnresolvable (files_of files.entry.now)
+        (words_of words.entry.now) found.old.most found.new.places.items found.new.more) }
+    ensures references { OnOk result (TellsUnreferable (files_of files.entry.now)
+        (words_of words.entry.now) found.old.most found.new.places.items found.new.more) }
     ensures places { OnOk result (All
         (Says (files_of files.now) (words_of words.now)) found.new.places.items) }
     ensures hints { IfOk result (λ b. All
@@ -148,6 +182,9 @@ fn add_reasons<'a>(
             Ok(Beside { hints, notes })
         }
         Err(fault) => {
+            if is_memory(fault) {
+                return Err(AllocError);
+            }
             add_unloaded(found, files, &plan, fault)?;
             Ok(Beside::nothing(alloc))
         }
@@ -178,6 +215,10 @@ pub fn explain<'a>(
         (IsHintOf (files_of files.entry.now) (words_of words.entry.now)) f.hints.items) }
     ensures notes { IfOk result (λ f. All
         (IsNoteOf (files_of files.entry.now) (words_of words.entry.now)) f.notes.items) }
+    ensures resolution { IsOfResolution error.entry.now → IfOk result
+        (TellsResolution (files_of files.entry.now) (words_of words.entry.now) most) }
+    ensures references { IsOfReferences error.entry.now → IfOk result
+        (TellsReferences (files_of files.entry.now) (words_of words.entry.now) most) }
     ensures few { IfOk result (λ f. length f.places.items ≤ most) }
     ensures some { IfOk result (λ f. 0 < most → 0 < length f.places.items) }
 {

@@ -34,7 +34,7 @@ pub fn write_note<W: Write>(
     notes: &[Note<'_>],
     place: &Place<'_>,
 ) -> io::Result<()> {
-    let Place::Relocation(_, place, _) = place else {
+    let Place::Relocation(_, place, _, _) = place else {
         return Ok(());
     };
     let mut notes = notes.iter();

@@ -125,7 +125,7 @@ fn note_of<'a>(loaded: &Loaded<'a>, resolved: &Resolved<'a>, place: &Place<'a>) 
     requires { resolved.now ≡ loaded.now.objects }
     ensures { IfSome result (IsNote loaded.now) }
 {
-    let Place::Relocation(_, beside, fault) = place else {
+    let Place::Relocation(_, beside, fault, _) = place else {
         return None;
     };
     let fact = fact_of(loaded, resolved, beside, *fault)?;

@@ -1,8 +1,9 @@
 //! The places that an explanation names, of which errors they are, and the first of them that were found.
-ghost use Rattle.std.specs.Prelude.{◌≡◌, ◌≢◌, ◌<◌, ◌≤◌, All, IfOk, IfSome, IsTrue, List, OnOk, length, ℕ};
+ghost use Rattle.std.specs.Prelude.{◌≡◌, ◌≢◌, ◌↔◌, ◌<◌, ◌≤◌, All, IfOk, IfSome, IsTrue, List, OnOk, length, ℕ};
 ghost use Rattle.elf_model.specs.Inputs.Files.{File};
 ghost use Rattle.elf_model.specs.Own.Causes.{Cause};
 ghost use Rattle.elf_model.specs.declared.faults.LinkError.TheVariants as link_error;
+ghost use Rattle.explain.specs.Flawed.{IsOfReferences, IsOfResolution, IsToldOf};
 ghost use Rattle.explain.specs.Places.{AreSo, Ground, Holds, IsOf, IsSo, Says};
 
 use crate::hints::Hint;
@@ -61,8 +62,9 @@ pub enum Place<'a> {
     /// A kept section that takes up more than all addresses from the base on.
     Large(Reached<'a>, EntryPlace<'a, SectionHeader>),
     Symbol(Reached<'a>, EntryPlace<'a, Symbol>, SymbolFault),
-    /// A kept relocation.
-    Relocation(Reached<'a>, RelocationPlace<'a>, RelocationFault),
+    /// A kept relocation. Where its symbol's name is undefined, it is the first one to that name, and the number is how many
+    /// others there are; else that is 0.
+    Relocation(Reached<'a>, RelocationPlace<'a>, RelocationFault, u64),
     /// Two relocations of an object whose fields share a byte.
     Overlap(Reached<'a>, RelocationPlace<'a>, RelocationPlace<'a>),
     /// A relocation whose value, the first number, doesn't fit its field; the second number is the field's address.
@@ -73,9 +75,46 @@ pub enum Place<'a> {
     Refused(&'a LinkError),
 }
 
+/// Whether an error is of the phase of resolution.
+fn is_of_resolution(error: &LinkError) -> bool
+    ensures { IsTrue result ↔ IsOfResolution error.now }
+{
+    match error {
+        LinkError::SectionKind | LinkError::Duplicate(_) => true,
+        LinkError::BadCommon | LinkError::BadSymbol => true,
+        _ => false,
+    }
+}
+
+/// Whether an error is of the phase of references.
+fn is_of_references(error: &LinkError) -> bool
+    ensures { IsTrue result ↔ IsOfReferences error.now }
+{
+    match error {
+        LinkError::Undefined(_) | LinkError::RefToDropped => true,
+        LinkError::RelocKind | LinkError::FieldOutside => true,
+        LinkError::OverlappingFields | LinkError::TlsMismatch => true,
+        LinkError::MixedSection | LinkError::NoEntry => true,
+        _ => false,
+    }
+}
+
 impl<'a> Place<'a> {
-    /// Whether a place is told of an error: it is of this one, or of another one that is judged together with it.
+    /// Whether a place is told of an error: it is of this one, or of another one of the same phase.
     pub fn is_of(&self, error: &LinkError) -> bool
+        ensures of { IsTrue result → IsOf error.now self.now }
+        ensures flaws { IsToldOf error.now self.now → IsTrue result }
+    {
+        match self {
+            Place::Section(_, _) | Place::Symbol(_, _, _) => is_of_resolution(error),
+            Place::Relocation(_, _, _, _) => is_of_references(error),
+            Place::Overlap(_, _, _) | Place::Entry(_) => is_of_references(error),
+            _ => self.is_of_other(error),
+        }
+    }
+
+    /// The same of a place that is no flaw of a phase.
+    fn is_of_other(&self, error: &LinkError) -> bool
         ensures { IsTrue result → IsOf error.now self.now }
     {
         match (self, error) {
@@ -85,18 +124,6 @@ impl<'a> Place<'a> {
             (Place::NoIndex(_), LinkError::BadArchive(_) | LinkError::NoIndex) => true,
             (Place::Object(_, _, _), LinkError::BadObject(_) | LinkError::BadGroup(_)) => true,
             (Place::Groups(_, _), LinkError::BadObject(_) | LinkError::BadGroup(_)) => true,
-            (Place::Section(_, _), LinkError::SectionKind) => true,
-            (Place::Symbol(_, _, SymbolFault::BadCommon), LinkError::BadCommon) => true,
-            (Place::Symbol(_, _, SymbolFault::BadSymbol), LinkError::BadSymbol) => true,
-            (Place::Symbol(_, _, SymbolFault::Duplicate), LinkError::Duplicate(_)) => true,
-            (Place::Relocation(_, _, _), LinkError::Undefined(_)) => true,
-            (Place::Relocation(_, _, _), LinkError::RefToDropped) => true,
-            (Place::Relocation(_, _, _), LinkError::RelocKind) => true,
-            (Place::Relocation(_, _, _), LinkError::FieldOutside) => true,
-            (Place::Relocation(_, _, _), LinkError::TlsMismatch) => true,
-            (Place::Relocation(_, _, _), LinkError::MixedSection) => true,
-            (Place::Overlap(_, _, _), LinkError::OverlappingFields) => true,
-            (Place::Entry(_), LinkError::NoEntry) => true,
             (Place::Large(_, _), LinkError::TooLarge) => true,
             (Place::Value(_, _, _, _), LinkError::Overflow) => true,
             _ => false,
@@ -117,13 +144,14 @@ pub struct Found<'a> {
     pub hints: Vec<Hint<'a>>,
     /// What is told beside places.
     pub notes: Vec<Note<'a>>,
-    most: usize,
+    pub(crate) most: usize,
 }
 
 impl<'a> Found<'a> {
     /// No places; at most so many are kept.
     pub(crate) fn new(alloc: Global, most: usize) -> Found<'a>
-        ensures { (g : Ground) → AreSo g result.places.items }
+        ensures none { (g : Ground) → AreSo g result.places.items }
+        ensures most { result.most ≡ most }
     {
         Found {
             alloc,
@@ -169,6 +197,11 @@ impl<'a> Found<'a> {
             error.entry.now ≢ link_error.Memory → Cause files words error.entry.now
             → All (Says files words) self.entry.places.items
             → IfOk result (λ f. All (Holds files words) f.places.items) }
+        ensures flaws { All (IsToldOf error.entry.now) self.entry.places.items
+            → length self.entry.places.items ≤ most
+            → (0 < most → 0 < length self.entry.places.items)
+            → IfOk result (λ f. (f.places.items ≡ self.entry.places.items)
+            × (f.more ≡ self.entry.more)) }
         ensures few { IfOk result (λ f. length f.places.items ≤ most) }
         ensures some { IfOk result (λ f. 0 < most → 0 < length f.places.items) }
     {

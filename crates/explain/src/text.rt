@@ -283,7 +283,7 @@ impl PlaceText<'_, '_, '_> {
     fn relocation<W: Write>(&self, f: &mut Formatter<W>) -> fmt::Result {
         let inputs = self.inputs;
         match self.place {
-            Place::Relocation(object, place, fault) => {
+            Place::Relocation(object, place, fault, _) => {
                 let (at, hint) = (At { inputs, object }, hint(place.entry.kind(), *fault));
                 at.field(f, place)?;
                 write!(f, "{}{hint}", FaultOf(fault_of(*fault), place))?;

@@ -1,23 +1,22 @@
-//! What is looked for in the objects that are loaded: sections, symbols and relocations, each where it is wrong.
+//! What is looked for in the objects that are loaded: large sections, and relocations whose values don't fit.
 ghost use Rattle.std.specs.Prelude.{◌≡◌, IfSome, OnOk, Some};
 ghost use Rattle.std.specs.List.{slice_get};
-ghost use Rattle.elf_model.specs.Link.Relocation.{Relocation, width_of};
+ghost use Rattle.elf_model.specs.Inputs.Command.{IsBase};
 ghost use Rattle.input_names.specs.RelocationPlaces.{IsKeptOf};
 ghost use Rattle.search.specs.Faults.{IsObjectAt};
 ghost use Rattle.search.specs.Views.{loaded_view};
-ghost use Rattle.relocate.specs.SymbolTables.{IsReferrer, IsValued, all_of, all_valued};
+ghost use Rattle.relocate.specs.SymbolTables.{IsValued, all_valued};
 ghost use Rattle.explain.specs.Places.{AreSo, HoldsIn, MayBeAsked, OfLoaded, basis_of};
 
-use crate::place::{Added, EntryPlace, Found, Place, SymbolFault};
+use crate::place::{Added, EntryPlace, Found, Place};
 use elf_model::Rela;
 use got_tls::Slots;
-use input_names::{RelocationPlace, begins_in, relocation_place, section_name};
-use layout::{Placement, is_lawful_if_kept};
-use relocate::{Kind, Referrer, Valued, address_or_none, fitting_value, lawful_kind, wanted_value};
-use resolve::{Resolved, is_dropped, is_sound, is_sound_common, is_strong};
+use input_names::{RelocationPlace, relocation_place, section_name};
+use layout::Placement;
+use relocate::{Kind, Valued, address_or_none, fitting_value, wanted_value};
+use resolve::Resolved;
 use search::{Loaded, LoadedObject, Reached, is_some_kind};
 use std::alloc::{AllocError, Global};
-use std::collections::BTreeSet;
 
 /// All addresses of an image are below this one.
 const TOP: u64 = 1 << 46;
@@ -25,20 +24,8 @@ const TOP: u64 = 1 << 46;
 /// What is wrong, and looked for.
 #[derive(Clone, Copy)]
 pub enum Wanted<'w, 'a> {
-    /// Kept sections whose type or flags are none of the profile's.
-    UnlawfulSections,
     /// Kept sections that take up more than all addresses from the base on.
     LargeSections,
-    /// Common symbols that aren't sound.
-    UnsoundCommons,
-    /// Symbols that aren't sound.
-    UnsoundSymbols,
-    /// Strong definitions of a name that has two.
-    Definitions(&'w [u8]),
-    /// Kept relocations that aren't lawful, where names are resolved, and the output names of several output sections are known.
-    UnlawfulEntries(&'w Resolved<'a>, &'w BTreeSet<&'a [u8]>),
-    /// Kept relocations of an object whose fields share a byte: neighbours in the order of their fields.
-    Overlaps,
     /// Kept relocations whose values don't fit, where objects are laid out, the GOT has slots, and the thread pointer is known.
     UnfitEntries(&'w Resolved<'a>, &'w Placement<'a>, &'w Slots<'a>, u64),
 }
@@ -65,58 +52,24 @@ pub(crate) fn reached<'a>(one: &LoadedObject<'a>) -> Reached<'a>
     }
 }
 
-/// Kept section `n` of object `k`, where it is wrong.
-fn wrong_section<'a>(loaded: &Loaded<'a>, wanted: Wanted<'_, 'a>, k: usize, n: usize) -> Wrong<'a>
-    requires { MayBeAsked loaded.now wanted }
+/// Kept section `n` of object `k`, where it takes up more than all addresses from the base on.
+fn large_section<'a>(loaded: &Loaded<'a>, k: usize, n: usize) -> Wrong<'a>
+    requires { IsBase loaded.now.plan.base }
     ensures { IfSome result (HoldsIn loaded.now) }
 {
     let one = object_at(loaded, k)?;
     let i = *one.kept_sections().get(n)? as usize;
     let entry = one.object.sections().get(i)?;
+    if !one.is_kept(i, &entry) || entry.sh_size <= TOP - loaded.plan().base {
+        return None;
+    }
     let place = EntryPlace {
         object: k as u64,
         number: i as u64,
         entry,
         name: section_name(&one.object, i),
     };
-    match wanted {
-        Wanted::UnlawfulSections if !is_lawful_if_kept(one, i, &entry) => {
-            Some(Place::Section(reached(one), place))
-        }
-        Wanted::LargeSections
-            if entry.sh_size > TOP - loaded.plan().base && one.is_kept(i, &entry) => {
-            Some(Place::Large(reached(one), place))
-        }
-        _ => None,
-    }
-}
-
-/// Symbol `j` of object `k`, where it is wrong.
-fn wrong_symbol<'a>(loaded: &Loaded<'a>, wanted: Wanted<'_, 'a>, k: usize, j: usize) -> Wrong<'a>
-    requires { MayBeAsked loaded.now wanted }
-    ensures { IfSome result (HoldsIn loaded.now) }
-{
-    let one = object_at(loaded, k)?;
-    let entry = one.object.symbols().get(j)?;
-    let place = EntryPlace {
-        object: k as u64,
-        number: j as u64,
-        entry,
-        name: one.object.symbol_name(j),
-    };
-    match wanted {
-        Wanted::UnsoundCommons if !is_sound_common(k as u64, one, j, &entry) => {
-            Some(Place::Symbol(reached(one), place, SymbolFault::BadCommon))
-        }
-        Wanted::UnsoundSymbols if !is_sound(loaded.objects(), k as u64, one, j, &entry) => {
-            Some(Place::Symbol(reached(one), place, SymbolFault::BadSymbol))
-        }
-        Wanted::Definitions(name)
-            if place.name == name && is_strong(&entry, is_dropped(one, &entry)) => {
-            Some(Place::Symbol(reached(one), place, SymbolFault::Duplicate))
-        }
-        _ => None,
-    }
+    Some(Place::Large(reached(one), place))
 }
 
 /// An entry of a RELA section of an object.
@@ -185,57 +138,6 @@ fn relocation_at<'a>(
     Some(relocation_place(k, object, i, &header, at.number, &entry))
 }
 
-/// An entry, where it isn't lawful.
-fn unlawful_entry<'a>(
-    loaded: &Loaded<'a>,
-    referrer: &Referrer<'_, '_, 'a>,
-    at: &EntryAt,
-) -> Wrong<'a>
-    requires known { IsReferrer referrer.now }
-    requires same { all_of referrer.now ≡ loaded.now.objects }
-    ensures { IfSome result (HoldsIn loaded.now) }
-{
-    let place = relocation_at(loaded, referrer.number, referrer.loaded, at)?;
-    let target = referrer.relocated(place.section as u64);
-    match lawful_kind(referrer, target, &place.entry) {
-        Ok(_) => None,
-        Err(fault) => Some(Place::Relocation(reached(referrer.loaded), place, fault)),
-    }
-}
-
-/// Whether an entry isn't lawful, told without reading its names.
-fn is_unlawful(referrer: &Referrer<'_, '_, '_>, at: &EntryAt) -> bool
-    requires { IsReferrer referrer.now }
-{
-    let Some(entry) = entry_at(referrer.loaded, at) else {
-        return false;
-    };
-    let target = referrer.relocated(u64::from(at.section));
-    lawful_kind(referrer, target, &entry).is_err()
-}
-
-/// Adds an entry, where it isn't lawful: names are read only of what is kept.
-fn add_unlawful<'a>(
-    found: &mut Found<'a>,
-    loaded: &Loaded<'a>,
-    referrer: &Referrer<'_, '_, 'a>,
-    at: &EntryAt,
-) -> Added
-    requires known { IsReferrer referrer.now }
-    requires same { all_of referrer.now ≡ loaded.now.objects }
-    requires before { AreSo (OfLoaded loaded.now) found.old.places.items }
-    ensures { OnOk result (AreSo (OfLoaded loaded.now) found.new.places.items) }
-{
-    if !is_unlawful(referrer, at) {
-        return Ok(());
-    }
-    if found.is_full() {
-        found.count();
-        return Ok(());
-    }
-    found.add(unlawful_entry(loaded, referrer, at))
-}
-
 /// An entry, where its value doesn't fit.
 fn unfit_entry<'a>(loaded: &Loaded<'a>, valued: &Valued<'_, 'a>, at: &EntryAt) -> Wrong<'a>
     requires known { IsValued valued.now }
@@ -293,65 +195,6 @@ fn add_unfit<'a>(
     found.add(unfit_entry(loaded, valued, at))
 }
 
-/// The width of a relocation's field in bytes.
-fn width(place: &RelocationPlace<'_>) -> Option<u64>
-    ensures { IfSome result (λ n. (r : Relocation) → r.entry ≡ place.now.entry → n ≡ width_of r) }
-{
-    Some(u64::from(Kind::of(place.entry.kind())?.width))
-}
-
-/// Two entries of object `k`, where the field of the second one begins inside that of the first one.
-fn overlap<'a>(loaded: &Loaded<'a>, k: usize, first: &EntryAt, second: &EntryAt) -> Wrong<'a>
-    ensures { IfSome result (HoldsIn loaded.now) }
-{
-    let one = object_at(loaded, k)?;
-    let first = relocation_at(loaded, k, one, first)?;
-    let second = relocation_at(loaded, k, one, second)?;
-    if !begins_in(&first, width(&first)?, &second, width(&second)?) {
-        return None;
-    }
-    Some(Place::Overlap(reached(one), first, second))
-}
-
-/// Whether the fields of two entries share a byte, of which the second one doesn't begin before the first one, told without
-/// reading their names.
-fn share_a_byte(one: &LoadedObject<'_>, first: &EntryAt, second: &EntryAt) -> bool {
-    let (Some(entry), Some(next)) = (entry_at(one, first), entry_at(one, second)) else {
-        return false;
-    };
-    let (Some(kind), Some(next)) = (Kind::of(entry.kind()), Kind::of(next.kind())) else {
-        return false;
-    };
-    first.section == second.section
-        && next.width > 0
-        && second.offset.wrapping_sub(first.offset) < u64::from(kind.width)
-}
-
-/// Adds two entries of object `k`, where the field of the second one begins inside that of the first one: names are read only of
-/// what is kept.
-fn add_overlap<'a>(
-    found: &mut Found<'a>,
-    loaded: &Loaded<'a>,
-    k: usize,
-    first: &EntryAt,
-    second: &EntryAt,
-) -> Added
-    requires { AreSo (OfLoaded loaded.now) found.old.places.items }
-    ensures { OnOk result (AreSo (OfLoaded loaded.now) found.new.places.items) }
-{
-    let Some(one) = object_at(loaded, k) else {
-        return Ok(());
-    };
-    if !share_a_byte(one, first, second) {
-        return Ok(());
-    }
-    if found.is_full() {
-        found.count();
-        return Ok(());
-    }
-    found.add(overlap(loaded, k, first, second))
-}
-
 /// Adds what is wrong with object `k`.
 fn add_object<'a>(
     found: &mut Found<'a>,
@@ -368,16 +211,9 @@ fn add_object<'a>(
     };
     let alloc = found.alloc;
     match wanted {
-        Wanted::UnlawfulSections | Wanted::LargeSections => {
+        Wanted::LargeSections => {
             for n in 0..one.kept_sections().len() {
-                found.add(wrong_section(loaded, wanted, k, n))?;
-            }
-        }
-        Wanted::UnlawfulEntries(resolved, mixed) => {
-            let referrer = Referrer::new(alloc, resolved, mixed, k, one)?;
-            let entries = kept_entries(alloc, one)?;
-            for unlawful in &entries {
-                add_unlawful(found, loaded, &referrer, unlawful)?;
+                found.add(large_section(loaded, k, n))?;
             }
         }
         Wanted::UnfitEntries(resolved, placement, slots, pointer) => {
@@ -385,18 +221,6 @@ fn add_object<'a>(
             let entries = kept_entries(alloc, one)?;
             for unfit in &entries {
                 add_unfit(found, loaded, &valued, unfit)?;
-            }
-        }
-        Wanted::Overlaps => {
-            let mut entries = kept_entries(alloc, one)?;
-            entries.sort_by_key(|e| (e.section, e.offset))?;
-            for i in 1..entries.len() {
-                add_overlap(found, loaded, k, &entries[i - 1], &entries[i])?;
-            }
-        }
-        _ => {
-            for j in 0..one.object.symbols().len() {
-                found.add(wrong_symbol(loaded, wanted, k, j))?;
             }
         }
     }

@@ -78,6 +78,7 @@ pub fn read_link<'a>(
     };
     Ok(Some(Link {
         plan,
+        parts: &[],
         files,
         image,
         map,

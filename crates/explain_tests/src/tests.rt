@@ -3,5 +3,6 @@ mod bad_objects;
 mod hints;
 mod lines;
 mod notes;
+mod references;
 mod refused_links;
 mod source_lines;

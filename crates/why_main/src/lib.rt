@@ -29,10 +29,8 @@ use std::io::{ErrorKind, Read, Write};
 use std::random::RandomSource;
 use std::rt::{Env, Files};
 
-/// How many places are printed, and how many are looked for where some are printed as one.
+/// How many places are printed.
 const MOST: usize = 20;
-
-const PLACES: usize = 4096;
 
 /// The status where memory can't be had.
 const NO_MEMORY: u8 = 4;
@@ -48,14 +46,14 @@ fn reasons(
 ) -> io::Result<Vec<u8>>
     requires { Cause (files_of files.now) (words_of words.now) error.now }
 {
-    let found = explain(alloc, files, words, error, PLACES, seed)?;
+    let found = explain(alloc, files, words, error, MOST, seed)?;
     let inputs = Inputs {
         alloc,
         files,
         words,
     };
     let mut text = Vec::new(alloc);
-    write_places(&mut text, inputs, &found, MOST as u64)?;
+    write_places(&mut text, inputs, &found)?;
     Ok(text)
 }
 
@@ -91,11 +89,11 @@ fn fail_file<R: Files, W: Write>(rt: &R, out: &mut W, failure: &Failure<'_>) -> 
                 writeln!(out, "{}: {error}", Name(path.as_bytes()))?;
             }
         }
-        Failure::CannotWrite(path) => {
+        Failure::Overwrites(path) => {
             let name = Name(path.as_bytes());
             writeln!(out, "{name}: one of the files that are read")?;
         }
-        Failure::Refused { .. } => {}
+        Failure::CannotWrite(_) | Failure::Refused { .. } => {}
     }
     Ok(status)
 }

@@ -370,13 +370,13 @@ const TWICE: [Row; 2] = [
             ),
         ],
         "a.o b.o c.o",
-        "a.o: symbol 3 f of .text: defined here\n\
+        "a.o: symbol 2 h of .text: defined here\n\
+         a.o: symbol 3 f of .text: defined here\n\
          b.o: symbol 1 f of .text: defined here\n\
-         c.o: symbol 4 f of .text: defined here\n\
          b.o: symbol 3 e of .text: defined here\n\
+         c.o: symbol 1 h of .text: defined here\n\
          c.o: symbol 2 e of .text: defined here\n\
-         a.o: symbol 2 h of .text: defined here\n\
-         c.o: symbol 1 h of .text: defined here\n",
+         c.o: symbol 4 f of .text: defined here\n",
     ),
     // Two definitions of a name in one object, beside two of another name in two.
     (
@@ -405,9 +405,9 @@ const TWICE: [Row; 2] = [
             ),
         ],
         "a.o b.o",
-        "a.o: symbol 2 f of .text: defined here\n\
+        "a.o: symbol 1 _start of .text: defined here\n\
+         a.o: symbol 2 f of .text: defined here\n\
          a.o: symbol 3 f of .text: defined here\n\
-         a.o: symbol 1 _start of .text: defined here\n\
          b.o: symbol 2 _start of .text: defined here\n",
     ),
 ];

@@ -6,9 +6,6 @@ use link_samples::one_object::words_of;
 use std::alloc::Global;
 use std::test::Fail;
 
-/// How many places are looked for.
-const PLACES: usize = 64;
-
 /// The lines that say why the link of files by the words of a line is refused, so many at most, and how many more there are
 /// where there are more.
 pub fn lines_of(
@@ -22,13 +19,13 @@ pub fn lines_of(
     let Err(error) = prepare(alloc, files, words) else {
         return Ok(String::new(alloc));
     };
-    let found = explain(alloc, files, words, &error, PLACES, NameSeed::fixed())?;
+    let found = explain(alloc, files, words, &error, most, NameSeed::fixed())?;
     let inputs = Inputs {
         alloc,
         files,
         words,
     };
     let mut text = Vec::new(alloc);
-    write_places(&mut text, inputs, &found, most as u64)?;
+    write_places(&mut text, inputs, &found)?;
     Ok(String::from_utf8(text)?)
 }

@@ -324,7 +324,31 @@ const RETAINED: Section<'static> = Section {
     ..DATA
 };
 
-const NAMES: [Row; 6] = [
+/// A symbol behind its section's end.
+const LATE: NamedSymbol<'static> = NamedSymbol {
+    name: "late",
+    st_value: 1000,
+    ..F
+};
+
+/// In each of two objects a section of an unlawful kind, a common symbol and another one that aren't sound, and a definition that
+/// both have.
+const TWO_OF_EACH: [File; 2] = [
+    File::Object(
+        "a.o",
+        &[TEXT, WRITABLE_CODE],
+        &[START, NAMELESS, SKEWED_COMMON, F],
+        &[],
+    ),
+    File::Object(
+        "b.o",
+        &[TEXT, WRITABLE_CODE],
+        &[LATE, F, SKEWED_COMMON],
+        &[],
+    ),
+];
+
+const NAMES: [Row; 8] = [
     (
         &[File::Object("a.o", &[TEXT, RETAINED], &[START], &[])],
         "a.o",
@@ -364,6 +388,29 @@ const NAMES: [Row; 6] = [
         "a.o: symbol 2 f of .text: defined here\n\
          b.o (item 1): symbol 1 f of .text: defined here\n\
          and 1 more place\n",
+    ),
+    // All that is wrong with sections and symbols, two of each kind, in load order.
+    (
+        &TWO_OF_EACH,
+        "a.o b.o",
+        9,
+        "a.o: section 2 .wx: type PROGBITS, flags WRITE ALLOC EXECINSTR: not linked\n\
+         b.o: section 2 .wx: type PROGBITS, flags WRITE ALLOC EXECINSTR: not linked\n\
+         a.o: symbol 2 of .text: a symbol that isn't LOCAL needs a name and a section that is loaded, and any symbol \
+         lies within its section\n\
+         a.o: symbol 3 c: a common symbol must be GLOBAL, not of type TLS, and aligned to a power of two up to 2^21\n\
+         a.o: symbol 4 f of .text: defined here\n\
+         b.o: symbol 1 late of .text: a symbol that isn't LOCAL needs a name and a section that is loaded, and any symbol \
+         lies within its section\n\
+         b.o: symbol 2 f of .text: defined here\n\
+         b.o: symbol 3 c: a common symbol must be GLOBAL, not of type TLS, and aligned to a power of two up to 2^21\n",
+    ),
+    (
+        &TWO_OF_EACH,
+        "a.o b.o",
+        1,
+        "a.o: section 2 .wx: type PROGBITS, flags WRITE ALLOC EXECINSTR: not linked\n\
+         and 7 more places\n",
     ),
     (
         &[File::Object("a.o", &[TEXT, HUGE], &[START], &[])],
@@ -412,22 +459,127 @@ const SECOND: NamedSymbol<'static> = NamedSymbol {
     ..START
 };
 
+/// R_X86_64_8, and R_X86_64_COPY, which isn't linked.
+const R_8: u32 = 14;
+
+const COPY: u32 = 5;
+
+/// Two objects that both ask for `f` and `g`, have a relocation that isn't linked, and fields that share bytes: in the first one
+/// those of one byte with that of eight before both.
+const WRONG_BOTH: [File; 2] = [
+    File::Object(
+        "a.o",
+        &[LONG_TEXT],
+        &[START, NO_F, NO_G],
+        &[
+            Relocation(1, 0, R_64, 1, 0),
+            Relocation(1, 1, R_8, 1, 0),
+            Relocation(1, 3, R_8, 1, 0),
+            Relocation(1, 8, R_PC32, 2, 0),
+            Relocation(1, 12, R_PC32, 3, 0),
+            Relocation(1, 16, R_PC32, 2, 0),
+            Relocation(1, 20, COPY, 1, 0),
+        ],
+    ),
+    File::Object(
+        "b.o",
+        &[LONG_TEXT],
+        &[NO_G, NO_F],
+        &[
+            Relocation(1, 8, R_PC32, 1, 0),
+            Relocation(1, 10, R_PC32, 2, 0),
+            Relocation(1, 20, COPY, 1, 0),
+        ],
+    ),
+];
+
+const FAR_FIELDS: File = File::Object(
+    "a.o",
+    &[LONG_TEXT],
+    &[START],
+    &[
+        Relocation(1, 0, R_64, 1, 0),
+        Relocation(1, 3, R_8, 1, 0),
+        Relocation(1, 1, R_8, 1, 0),
+    ],
+);
+
+/// All that is wrong with references, of any of their errors.
+const REFERENCES: [Row; 4] = [
+    (
+        &WRONG_BOTH,
+        "a.o b.o -e x",
+        8,
+        "a.o: .text+0x8 in _start: f is not defined (relocation 3 of section 4, R_X86_64_PC32, to symbol 2); and 2 more \
+         references to it\n\
+         a.o: .text+0xc: g is not defined (relocation 4 of section 4, R_X86_64_PC32, to symbol 3); and 1 more reference \
+         to it\n\
+         a.o: .text+0x14: not a type of relocation that is linked (relocation 6 of section 4, R_X86_64_COPY, to symbol 1 \
+         of .text)\n\
+         b.o: .text+0x14: not a type of relocation that is linked (relocation 2 of section 4, R_X86_64_COPY, to symbol 1); \
+         g is not defined\n\
+         the entry x has no definition outside thread-local storage\n\
+         a.o: .text+0x0 in _start: relocation 0 of section 4, R_X86_64_64, to symbol 1 _start of .text: its field shares \
+         a byte with that of a.o: .text+0x1 in _start: relocation 1 of section 4, R_X86_64_8, to symbol 1 _start of \
+         .text\n\
+         a.o: .text+0x0 in _start: relocation 0 of section 4, R_X86_64_64, to symbol 1 _start of .text: its field shares \
+         a byte with that of a.o: .text+0x3 in _start: relocation 2 of section 4, R_X86_64_8, to symbol 1 _start of \
+         .text\n\
+         b.o: .text+0x8: relocation 0 of section 4, R_X86_64_PC32, to symbol 1 g: its field shares a byte with that of \
+         b.o: .text+0xa: relocation 1 of section 4, R_X86_64_PC32, to symbol 2 f\n",
+    ),
+    (
+        &WRONG_BOTH,
+        "a.o b.o -e x",
+        1,
+        "a.o: .text+0x8 in _start: f is not defined (relocation 3 of section 4, R_X86_64_PC32, to symbol 2); and 2 more \
+         references to it\n\
+         and 7 more places\n",
+    ),
+    (
+        &[FAR_FIELDS],
+        "a.o -e x",
+        9,
+        "the entry x has no definition outside thread-local storage\n\
+         a.o: .text+0x0 in _start: relocation 0 of section 4, R_X86_64_64, to symbol 1 _start of .text: its field shares \
+         a byte with that of a.o: .text+0x1 in _start: relocation 2 of section 4, R_X86_64_8, to symbol 1 _start of \
+         .text\n\
+         a.o: .text+0x0 in _start: relocation 0 of section 4, R_X86_64_64, to symbol 1 _start of .text: its field shares \
+         a byte with that of a.o: .text+0x3 in _start: relocation 1 of section 4, R_X86_64_8, to symbol 1 _start of \
+         .text\n",
+    ),
+    (
+        &[FAR_FIELDS],
+        "a.o",
+        1,
+        "a.o: .text+0x0 in _start: relocation 0 of section 4, R_X86_64_64, to symbol 1 _start of .text: its field shares \
+         a byte with that of a.o: .text+0x1 in _start: relocation 2 of section 4, R_X86_64_8, to symbol 1 _start of \
+         .text\n\
+         and 1 more place\n",
+    ),
+];
+
+#[test]
+fn all_that_is_wrong_with_references_is_told(rt: HostRuntime) -> Result<(), Fail> {
+    assert_rows(&rt, &REFERENCES)
+}
+
 const RELOCATIONS: [Row; 17] = [
     // Two functions: the byte after the first is the second's, and that after the second no function's.
     (
         &[File::Object(
             "a.o",
             &[LONG_TEXT],
-            &[START, SECOND, NO_F],
+            &[START, SECOND, NO_F, NO_G],
             &[
                 Relocation(1, 4, R_PC32, 3, 0),
-                Relocation(1, 9, R_PC32, 3, 0),
+                Relocation(1, 9, R_PC32, 4, 0),
             ],
         )],
         "a.o",
         9,
         "a.o: .text+0x4 in _start: f is not defined (relocation 0 of section 4, R_X86_64_PC32, to symbol 3)\n\
-         a.o: .text+0x9 in second: f is not defined (relocation 1 of section 4, R_X86_64_PC32, to symbol 3)\n",
+         a.o: .text+0x9 in second: g is not defined (relocation 1 of section 4, R_X86_64_PC32, to symbol 4)\n",
     ),
     (
         &[File::Object(
@@ -503,8 +655,8 @@ const RELOCATIONS: [Row; 17] = [
         )],
         "a.o",
         9,
-        "a.o: .text+0x0 in _start: f is not defined (relocation 0 of section 4, R_X86_64_PLT32, to symbol 2)\n\
-         a.o: .text+0x5 in _start: f is not defined (relocation 1 of section 4, R_X86_64_PC32, to symbol 2)\n",
+        "a.o: .text+0x0 in _start: f is not defined (relocation 0 of section 4, R_X86_64_PLT32, to symbol 2); and 1 more \
+         reference to it\n",
     ),
     (
         &[File::Object(
@@ -522,10 +674,8 @@ const RELOCATIONS: [Row; 17] = [
         )],
         "a.o",
         9,
-        "a.o: .text+0x0 in _start: f is not defined (relocation 0 of section 4, R_X86_64_PC32, to symbol 2)\n\
-         a.o: .text+0x4 in _start: f is not defined (relocation 1 of section 4, R_X86_64_PC32, to symbol 2)\n\
-         a.o: .text+0x8 in _start: f is not defined (relocation 2 of section 4, R_X86_64_PC32, to symbol 2); and 2 \
-         more references to it\n\
+        "a.o: .text+0x0 in _start: f is not defined (relocation 0 of section 4, R_X86_64_PC32, to symbol 2); and 4 more \
+         references to it\n\
          a.o: .text+0x14: g is not defined (relocation 5 of section 4, R_X86_64_PC32, to symbol 3)\n",
     ),
     (

@@ -2,7 +2,7 @@
 //! by llvm-dwarfdump: from offset 0 on a.c:3, from 4 on line 7 of a file of `inc` with a line feed in its name, at 8 a.c:4.
 use crate::tests::lines::lines_of;
 use link_samples::links::{File, files_of};
-use link_samples::objects::{Relocation, Section};
+use link_samples::objects::{NamedSymbol, Relocation, Section};
 use link_samples::parts::{NO_F, NOTES, R_64, R_PC32, START, TEXT};
 use std::test::Fail;
 
@@ -14,6 +14,8 @@ const LINES: Section<'static> = Section {
     ..NOTES
 };
 
+const NO_G: NamedSymbol<'static> = NamedSymbol { name: "g", ..NO_F };
+
 /// The address at the beginning of the line table's sequence, that of `_start`.
 const ADDRESS: Relocation = Relocation(2, 48, R_64, 1, 0);
 
@@ -23,16 +25,16 @@ static ROWS: [(&[File], &str); 3] = [
         &[File::Object(
             "a.o",
             &[TEXT, LINES],
-            &[START, NO_F],
+            &[START, NO_F, NO_G],
             &[
                 ADDRESS,
                 Relocation(1, 0, R_PC32, 2, 0),
-                Relocation(1, 4, R_PC32, 2, 0),
+                Relocation(1, 4, R_PC32, 3, 0),
             ],
         )],
         "a.o: .text+0x0 in _start (a.c:3): f is not defined (relocation 0 of section 5, R_X86_64_PC32, to symbol 2)\n\
-         a.o: .text+0x4 in _start (inc/h\\x0a.h:7): f is not defined (relocation 1 of section 5, R_X86_64_PC32, to symbol \
-         2)\n",
+         a.o: .text+0x4 in _start (inc/h\\x0a.h:7): g is not defined (relocation 1 of section 5, R_X86_64_PC32, to symbol \
+         3)\n",
     ),
     (
         &[File::Object(

@@ -1,0 +1,5 @@
+pub mod Additions
+pub mod Each
+pub mod Flawless
+pub mod Located
+pub mod Twins
