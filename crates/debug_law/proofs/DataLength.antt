@@ -75,25 +75,29 @@ row_fills n start y js (p ∷ ps) some e =
     (λ f u. row_fills n start y more ps (All-tail IsAligned p ps some) (subst (Reached start y) (sym (joined_other js p n f)) e))
     refl
 
--- the sections of an object are aligned
-some_aligned : (f : ℕ → Option Piece) → ((i : ℕ) (p : Piece) → f i ≡ Some p → IsAligned p) → (is : List ℕ) → All IsAligned (filter_map f is)
-some_aligned f is_aligned [] = All-nil IsAligned
-some_aligned f is_aligned (i ∷ is) = with_one (f i) (filter_map f is) (is_aligned i) (some_aligned f is_aligned is)
+-- what holds of each section of an object holds of those of debug data
+some_each : (P : Piece → Type 0) (f : ℕ → Option Piece) → ((i : ℕ) (p : Piece) → f i ≡ Some p → P p) → (is : List ℕ) → All P (filter_map f is)
+some_each P f each [] = All-nil P
+some_each P f each (i ∷ is) = with_one (f i) (filter_map f is) (each i) (some_each P f each is)
   where
-    with_one : (o : Option Piece) (ps : List Piece) → ((p : Piece) → o ≡ Some p → IsAligned p) → All IsAligned ps → All IsAligned (cons_option o ps)
+    with_one : (o : Option Piece) (ps : List Piece) → ((p : Piece) → o ≡ Some p → P p) → All P ps → All P (cons_option o ps)
     with_one None ps own rest = rest
-    with_one (Some p) ps own rest = All-cons IsAligned p ps (own p refl) rest
+    with_one (Some p) ps own rest = All-cons P p ps (own p refl) rest
 
-own_aligned : (k : ℕ) (o : LoadedObject) (i : ℕ) (p : Piece) → debug_piece k o i ≡ Some p → IsAligned p
-own_aligned k o i p e =
-    both (λ b. cond b (Some (piece_in k i o)) None ≡ Some p → IsAligned p) (holds_debug_data o i)
-    (λ t u. subst IsAligned (same_Some (piece_in k i o) p u) (le-max_left 1 (section (sections o.bytes) i).sh_addralign))
+one_each : (P : Piece → Type 0) (k : ℕ) (o : LoadedObject) → ((i : ℕ) → P (piece_in k i o)) → (i : ℕ) (p : Piece) → debug_piece k o i ≡ Some p → P p
+one_each P k o each i p e =
+    both (λ b. cond b (Some (piece_in k i o)) None ≡ Some p → P p) (holds_debug_data o i)
+    (λ t u. subst P (same_Some (piece_in k i o) p u) (each i))
     (λ f u. absurd (none-some p u)) e
 
+pub pieces_each : (P : Piece → Type 0) (flags : List Bool) (k : ℕ) (o : LoadedObject) → ((i : ℕ) → P (piece_in k i o)) → All P (debug_pieces flags k o)
+pieces_each P flags k o each =
+    both (λ b. All P (cond b [] (filter_map (debug_piece k o) (numbers o)))) (is_flagged flags k) (λ t. All-nil P)
+    (λ f. some_each P (debug_piece k o) (one_each P k o each) (numbers o))
+
+-- they are aligned
 pieces_aligned : (flags : List Bool) (k : ℕ) (o : LoadedObject) → All IsAligned (debug_pieces flags k o)
-pieces_aligned flags k o =
-    both (λ b. All IsAligned (cond b [] (filter_map (debug_piece k o) (numbers o)))) (is_flagged flags k) (λ t. All-nil IsAligned)
-    (λ f. some_aligned (debug_piece k o) (own_aligned k o) (numbers o))
+pieces_aligned flags k o = pieces_each IsAligned flags k o (λ i. le-max_left 1 (section (sections o.bytes) i).sh_addralign)
 
 -- those of all objects
 abbrev named_end : List ℕ → ℕ → ℕ → List (List Placed) → ℕ
@@ -123,12 +127,12 @@ found_positive (i ∷ is) n all =
     both (λ b. 0 < (unwrap_or (cond b (Some i) (found is n)) (empty n)).align) (bytes_eq i.title n) (λ t. All-head IsPositive i is all)
     (λ f. found_positive is n (All-tail IsPositive i is all))
 
-replaced_positive : (js : List Joined) (j : Joined) → All IsPositive js → IsPositive j → All IsPositive (replaced js j)
-replaced_positive [] j all own = All-cons IsPositive j [] own (All-nil IsPositive)
-replaced_positive (i ∷ is) j all own =
-    both (λ b. All IsPositive (cond b (j ∷ is) (i ∷ replaced is j))) (bytes_eq i.title j.title)
-    (λ t. All-cons IsPositive j is own (All-tail IsPositive i is all))
-    (λ f. All-cons IsPositive i (replaced is j) (All-head IsPositive i is all) (replaced_positive is j (All-tail IsPositive i is all) own))
+pub replaced_each : (P : Joined → Type 0) (js : List Joined) (j : Joined) → All P js → P j → All P (replaced js j)
+replaced_each P [] j all own = All-cons P j [] own (All-nil P)
+replaced_each P (i ∷ is) j all own =
+    both (λ b. All P (cond b (j ∷ is) (i ∷ replaced is j))) (bytes_eq i.title j.title)
+    (λ t. All-cons P j is own (All-tail P i is all))
+    (λ f. All-cons P i (replaced is j) (All-head P i is all) (replaced_each P is j (All-tail P i is all) own))
 
 grown_positive : (j : Joined) (p : Piece) → IsPositive j → IsPositive (grown j p)
 grown_positive j p own = let m = le-max_left j.align (alignment p) in omega (arith, own, m)
@@ -136,7 +140,7 @@ grown_positive j p own = let m = le-max_left j.align (alignment p) in omega (ari
 joined_positive : (js : List Joined) (ps : List Piece) → All IsPositive js → All IsPositive (joined_all js ps)
 joined_positive js [] all = all
 joined_positive js (p ∷ ps) all =
-    joined_positive (joined_with js p) ps (replaced_positive js (grown (named js p.name) p) all (grown_positive (named js p.name) p (found_positive js p.name all)))
+    joined_positive (joined_with js p) ps (replaced_each IsPositive js (grown (named js p.name) p) all (grown_positive (named js p.name) p (found_positive js p.name all)))
 
 -- all that is joined has a name and an alignment of its own
 record AreOwn (js : List Joined) : Type 0 where

@@ -1,6 +1,10 @@
 pub mod DataLength
 pub mod JoinedNames
 pub mod LocalRows
+pub mod ObjectFields
+pub mod SymbolFields
+pub mod SectionFields
+pub mod Written
 pub mod ReadBack
 pub mod ReadTables
 pub mod Said

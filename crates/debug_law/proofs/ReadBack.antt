@@ -7,7 +7,7 @@ use Rattle.std.proofs.lemmas.List.Elements.{All-head, All-tail}
 use Rattle.byteview.specs.Numbers.{is_nul, part, text}
 use Rattle.elf_model.specs.Image.SymbolTable.{ended}
 use Rattle.debug_image.specs.Tables.{spelled_from}
-use Rattle.debug_law.specs.ReadImages.{IsText}
+use Rattle.debug_law.proofs.ObjectFields.{IsText}
 
 -- what is spelled, with the offsets of names from one on
 abbrev pub named_from : {A B : Type 0} → (A → List ℕ) → (ℕ → A → B) → ℕ → List A → List B

@@ -16,7 +16,8 @@ use Rattle.elf_model.specs.declared.records.Symbol as code
 use Rattle.elf_model.proofs.Running.{rounded_up}
 use Rattle.elf_model.proofs.RecordLaws.{length-section_header_bytes, length-symbol_bytes, section_header_written, symbol_written}
 use Rattle.debug_image.specs.Tables.{HeaderRow, IsSmall, Row, Tables, entries_from, entry_at, header_at, header_rows, headers, headers_at, headers_from, spelled_from, shstrtab_at, shstrtab_end, strtab_at, symtab, symtab_at, strings_row, strtab, symtab_row, tail, titles}
-use Rattle.debug_law.specs.ReadImages.{IsText, null_header, null_row, read_header, read_symbol}
+use Rattle.debug_law.specs.ReadImages.{null_header, null_row, read_header, read_symbol}
+use Rattle.debug_law.proofs.ObjectFields.{IsText}
 use Rattle.debug_law.proofs.Zipped.{zipped}
 use Rattle.debug_law.proofs.ReadBack.{IsSpelling, length_spelled, named_from, names_from, read_from, seen_from}
 

@@ -9,7 +9,7 @@ use Rattle.elf_model.specs.Link.Loading.{LoadedObject}
 use Rattle.elf_model.specs.Link.Meaning.{Common, Linker, Meaning, Symbol}
 use Rattle.elf_model.specs.Link.Pieces.{AreLawfulKinds, IsLawfulKind, Piece, kept_sections, lawful_types}
 use Rattle.elf_model.specs.Link.Placement.{Placed}
-use Rattle.elf_model.specs.Link.Resolution.{SymbolOf, all_symbols, binding, is_absolute}
+use Rattle.elf_model.specs.Link.Resolution.{SymbolOf, binding, is_absolute}
 use Rattle.elf_model.specs.Own.OwnLayout.{got_pieces, laid_out, own_address, own_laid_out}
 use Rattle.elf_model.specs.declared.constants.TheConstants.{SHT_FINI_ARRAY, SHT_INIT_ARRAY, SHT_NOBITS, SHT_NOTE, SHT_PREINIT_ARRAY, SHT_PROGBITS, SHT_SYMTAB, SHT_X86_64_UNWIND, STB_LOCAL}
 use Rattle.elf_model.specs.declared.records.Symbol as code

@@ -1,10 +1,11 @@
 -- What a reader of the standard's tables finds in an image for tools (System V gABI 4, "Sections", "String Table", "Symbol Table").
 use Rattle.std.specs.Prelude.{◌≡◌, ℕ, ◌+◌, ◌==◌, ◌^◌, ◌<◌, Bool, true, false, All, List, [], ◌∷◌, length, map}
 use Rattle.std.specs.Str.{bytes_eq}
-use Rattle.byteview.specs.Numbers.{is_nul, part}
+use Rattle.byteview.specs.Numbers.{part}
+use Rattle.elf_model.specs.Image.MapText.{AreBytes}
 use Rattle.elf_model.specs.Inputs.Command.{IsBase}
 use Rattle.elf_model.specs.Inputs.ObjectFile.{name_of_section, name_of_symbol, null_section, null_symbol, sections, symbol_table, symbols}
-use Rattle.elf_model.specs.Inputs.Records.{FitsSectionHeader, FitsSymbol}
+use Rattle.elf_model.specs.Link.Listing.{AreListed}
 use Rattle.elf_model.specs.Link.Loading.{AreObjects}
 use Rattle.elf_model.specs.Link.Meaning.{Meaning}
 use Rattle.elf_model.specs.Link.Pieces.{AreLawfulKinds}
@@ -20,7 +21,7 @@ use Rattle.debug_image.specs.DebugImage.{CanBeSaid, data_end_in, data_in, debug_
 use Rattle.debug_image.specs.DebugSections.{Joined, joined_header, size_of, start_of}
 use Rattle.debug_image.specs.DebugValues.{Data, debug_bytes}
 use Rattle.debug_image.specs.Symbols.{meaning_rows}
-use Rattle.debug_image.specs.Tables.{HeaderRow, Row, header_rows, headers_at}
+use Rattle.debug_image.specs.Tables.{HeaderRow, Row, header_rows}
 use Rattle.debug_image.specs.declared.debug_file.Wanted.{Wanted}
 
 -- The section headers and the symbols of a file, each with its name in place of the offset of that, as the readers' definitions find them.
@@ -57,25 +58,14 @@ StandFrom file d y [] = Unit {0}
 StandFrom file d y (j ∷ js) =
     All (All (StandsIn file d (joined_header (start_of y j) j) j.title)) d.rows × StandFrom file d (start_of y j + j.end) js
 
--- a link that the linker has laid out
+-- a link that the linker has laid out, of files whose bytes are bytes
 pub record IsLaidOut (l : Linked) : Type 0 where
   pub kinds : AreLawfulKinds l.objects
   pub base : IsBase l.plan.base
   pub not_too_large : IsNotTooLarge l.plan.base l.objects
   pub objects : AreObjects l.objects
+  pub bytes : All (λ o. AreBytes o.bytes) l.objects
   pub entry : own_entry l.plan.base l.objects l.plan.entry < 2 ^ 64
-
--- The numbers of headers and symbols fit their fields, and no name has a NUL. So it is in all that the program writes, whose records have
--- fields of that width, and whose names are read up to a NUL.
-abbrev pub IsText : List ℕ → Type 0
-IsText name = All (λ b. is_nul b ≡ false) name
-
-pub record AreWritten (w : Wanted) (l : Linked) (ms : List Meaning) : Type 0 where
-  pub offset : headers_at (data_end_in w l) (tables_in w l ms) < 2 ^ 64
-  pub headers : All (λ r. FitsSectionHeader r.header) (header_rows (data_end_in w l) (tables_in w l ms))
-  pub titles : All (λ r. IsText r.title) (header_rows (data_end_in w l) (tables_in w l ms))
-  pub symbols : All (λ r. FitsSymbol r.entry) (rows_of w.locals (laid_of l.plan.base l.objects) ms)
-  pub names : All (λ r. IsText r.name) (rows_of w.locals (laid_of l.plan.base l.objects) ms)
 
 -- A reader finds the headers that are told and the symbols that are told, of which so many are LOCAL as sh_info says, and these are the
 -- first ones; and sections of debug data.
@@ -87,5 +77,6 @@ pub record IsReadBack (w : Wanted) (l : Linked) (ms : List Meaning) : Type 0 whe
   pub others : All (λ r. is_local r ≡ false) (meaning_rows (laid_of l.plan.base l.objects) ms)
   pub data_stands : StandFrom (debug_file w l ms) (data_in w l) (end_in l) (joined_in w l.objects)
 
+-- so it is of each link, with what all names mean that have a line in the map
 abbrev pub ImagesAreReadBack : Type 0
-ImagesAreReadBack = (w : Wanted) (l : Linked) (ms : List Meaning) → IsLaidOut l → CanBeSaid w l ms → AreWritten w l ms → IsReadBack w l ms
+ImagesAreReadBack = (w : Wanted) (l : Linked) (ms : List Meaning) → IsLaidOut l → AreListed l.objects ms → CanBeSaid w l ms → IsReadBack w l ms

@@ -26,7 +26,9 @@ use Rattle.linker.proofs.InOrderLaws.{from_listing}
 use Rattle.linker.proofs.OwnSpelled.{rise}
 use Rattle.resolve.specs.Views.{meaning_views}
 use Rattle.resolve.specs.declared.definition.Definition as code
-use Rattle.debug_image.specs.DebugImage.{debug_file}
+use Rattle.debug_image.specs.DebugImage.{CanBeSaid, debug_file, joined_in, rows_in, tables_in}
+use Rattle.debug_image.specs.DebugSections.{AreFew}
+use Rattle.debug_image.specs.Tables.{IsSmall, Tables}
 use Rattle.debug_image.specs.declared.debug_file.Wanted.{Wanted}
 use Rattle.debug_main.specs.Verdicts.{IsDifference, IsToolImage}
 use Rattle.debug_main.specs.declared.verdict.Difference.{Difference}
@@ -89,24 +91,35 @@ module _ (objects : List LoadedObject) where
       by_names ms ns (own_name ms x) (own_name ns y) (sym (names_of_rows ms) ∙ (ap (map (λ (r : SymbolRow). r.name)) (same_rows ms ns x y) ∙ names_of_rows ns))
 
 -- two links of the same files and words have one plan and the same objects
-same_ok : (p q : Plan) (r : Result Plan CmdFault) → r ≡ Ok p → r ≡ Ok q → p ≡ q
+pub same_ok : (p q : Plan) (r : Result Plan CmdFault) → r ≡ Ok p → r ≡ Ok q → p ≡ q
 same_ok p q r a b = let e : Ok p ≡ Ok q = sym a ∙ b in cc
 
 one_plan : (files : List File) (words : List (List ℕ)) (l k : Linked) → IsPrepared files words l → IsPrepared files words k → l.plan ≡ k.plan
 one_plan files words l k is js =
     same_ok l.plan k.plan _ is.linkable.before.before.before.before.before.before.words_are js.linkable.before.before.before.before.before.before.words_are
 
-abbrev file_by : Wanted → Plan → List LoadedObject → List Meaning → List ℕ
-file_by w plan objects ms = debug_file w (record { plan = plan; objects = objects; names = []; listed = [] }) ms
+abbrev link_by : Plan → List LoadedObject → Linked
+link_by plan objects = record { plan = plan; objects = objects; names = []; listed = [] }
 
-one_file :
-    (files : List File) (words : List (List ℕ)) (w : Wanted) (l k : Linked) (xs ys : List code.Definition) → IsPrepared files words l → IsPrepared files words k →
-    IsListing l.objects xs → IsListing k.objects ys → debug_file w l (meaning_views xs) ≡ debug_file w k (meaning_views ys)
-one_file files words w l k xs ys is js a b =
-    let plan : l.plan ≡ k.plan = one_plan files words l k is js in
-    let objects : l.objects ≡ k.objects = is.objects ∙ (ap (loaded_objects files) plan ∙ sym js.objects) in
-    let names : meaning_views xs ≡ meaning_views ys = one_listing k.objects xs ys (subst (λ (os : List LoadedObject). IsListing os xs) objects a) b in
-    λ i. file_by w (plan i) (objects i) (names i)
+-- and so all that a plan, objects and what their names mean decide is one
+module _ (files : List File) (words : List (List ℕ)) (w : Wanted) (l k : Linked) (xs ys : List code.Definition) (is : IsPrepared files words l) (js : IsPrepared files words k) (a : IsListing l.objects xs) (b : IsListing k.objects ys) where
+  plan_is : l.plan ≡ k.plan
+  plan_is = one_plan files words l k is js
+
+  objects_are : l.objects ≡ k.objects
+  objects_are = is.objects ∙ (ap (loaded_objects files) plan_is ∙ sym js.objects)
+
+  names_are : meaning_views xs ≡ meaning_views ys
+  names_are = one_listing k.objects xs ys (subst (λ (os : List LoadedObject). IsListing os xs) objects_are a) b
+
+  one_file : debug_file w l (meaning_views xs) ≡ debug_file w k (meaning_views ys)
+  one_file = λ i. debug_file w (link_by (plan_is i) (objects_are i)) (names_are i)
+
+  pub one_said : CanBeSaid w l (meaning_views xs) → CanBeSaid w k (meaning_views ys)
+  one_said said = record {
+    small = subst (λ (t : Tables). IsSmall t) (λ i. tables_in w (link_by (plan_is i) (objects_are i)) (names_are i)) said.small;
+    few = subst (λ (os : List LoadedObject). AreFew (rows_in w os) (joined_in w os)) objects_are said.few;
+  }
 
 pub one_image :
     (files : List File) (words : List (List ℕ)) (w : Wanted) (x y : List ℕ) → IsToolImage files words w x → IsToolImage files words w y → x ≡ y

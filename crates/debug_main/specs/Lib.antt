@@ -1,5 +1,6 @@
 pub mod Comparisons
 pub mod DebugFiles
+pub mod Exclusions
 pub mod Lines
 pub mod Phrases
 pub mod Ready

@@ -7,6 +7,7 @@ use Rattle.resolve.specs.declared.definition.Definition as code
 use Rattle.debug_image.specs.DebugImage.{debug_file}
 use Rattle.debug_image.specs.DebugLayouts.{IsDataLayout}
 use Rattle.debug_image.specs.declared.debug_file.Wanted.{Wanted}
+use Rattle.debug_law.specs.ReadImages.{IsReadBack}
 use Rattle.debug_main.specs.DebugFiles.{file_of}
 use Rattle.debug_main.specs.declared.debug_file.DebugFile.{DebugFile}
 
@@ -14,8 +15,9 @@ use Rattle.debug_main.specs.declared.debug_file.DebugFile.{DebugFile}
 pub record IsReady (f : DebugFile) : Type 0 where
   pub layout : IsDataLayout f.layout.now
 
--- it is the image for tools of a link
+-- it is the image for tools of a link, and a reader of the standard's tables finds in it what these tell
 pub record IsToolFile (w : Wanted) (l : Linked) (f : DebugFile) : Type 0 where
   pub names : List code.Definition
   pub listing : IsListing l.objects names
   pub is : file_of f.layout.now f.parts.now ≡ debug_file w l (meaning_views names)
+  pub read : IsReadBack w l (meaning_views names)

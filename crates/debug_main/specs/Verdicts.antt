@@ -32,13 +32,14 @@ answer_status None = 0
 answer_status (Some v) = verdict_status v
 
 -- A file is the image for tools of the link of files by words: of the plan of the words and of what it loads, by the linker's own layout, of
--- all names that have a line in the map, in their order. There is at most one.
+-- all names that have a line in the map, in their order, where its numbers can be said. There is at most one.
 pub record IsToolImage (files : List File) (words : List (List ℕ)) (w : Wanted) (bytes : List ℕ) : Type 0 where
   pub link : Linked
   pub names : List code.Definition
   pub prepared : IsPrepared files words link
   pub own : HasOwnLink files words link
   pub listing : IsListing link.objects names
+  pub said : CanBeSaid w link (meaning_views names)
   pub is : bytes ≡ debug_file w link (meaning_views names)
 
 -- an image is at a first byte another one than what is wanted: up to there both are alike

@@ -3,7 +3,7 @@
 ghost use Rattle.std.specs.Prelude.{◌≡◌, ◌⊎◌, ◌≤◌, List, None, Some, true, false, IfErr, IfOk, IfSome};
 ghost use Rattle.debug_image.specs.DebugImage.{CanBeSaid, debug_file};
 ghost use Rattle.elf_model.specs.Inputs.Files.{files_of, words_of};
-ghost use Rattle.ld_main.specs.Program.{failure_status};
+ghost use Rattle.ld_main.specs.Program.{failure_status, unwritten_path};
 ghost use Rattle.image_write.specs.Listings.{IsListing};
 ghost use Rattle.resolve.specs.Views.{meaning_views};
 ghost use Rattle.resolve.specs.declared.definition.Definition.{Definition};
@@ -68,6 +68,7 @@ fn compared(
     requires { linkage.now.plan.strip ≡ true }
     ensures compared { IfOk result (λ d. (names : List Definition)
         × IsListing linkage.now.objects names
+        × CanBeSaid wanted linkage.now (meaning_views names)
         × Compares image.now (debug_file wanted linkage.now (meaning_views names)) d) }
     ensures large { IfErr result (λ e. is_memory e ≡ false → (names : List Definition)
         × IsListing linkage.now.objects names
@@ -158,6 +159,7 @@ pub fn check_files<'a, R: Files + AllocGlobal>(
     requires { IsStripped (words_of words.now) }
     ensures judged { IfOk result (SaysSome (files_of files.now) (words_of words.now) wanted) }
     ensures fault { IfErr result (λ f. 3 ≤ failure_status f) }
+    ensures unwritten { IfErr result (λ f. unwritten_path f ≡ None) }
 {
     let image = read_file(rt, image)?;
     let map = read_file(rt, map)?;

@@ -7,15 +7,18 @@
 mod checking;
 mod comparing;
 mod debug_file;
+mod laws;
 mod linking;
 mod parts;
 mod program;
+mod read_back;
 mod reports;
 mod verdict;
 mod words;
 
 pub use comparing::Comparing;
 pub use debug_file::{DebugFile, write_debug_file};
+pub use laws::no_tables_excludes_yes;
 pub use program::{run_args, run_debug};
 pub use verdict::{DebugVerdict, Difference};
 pub use words::{plain_words, stands_alone, stripped};

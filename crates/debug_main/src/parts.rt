@@ -1,5 +1,5 @@
 //! What an image for tools is made of.
-ghost use Rattle.std.specs.Prelude.{◌≡◌, ◌≢◌, true, false, IfErr, IfOk};
+ghost use Rattle.std.specs.Prelude.{◌≡◌, ◌≢◌, true, false, IfErr, IfOk, OnOk};
 ghost use Rattle.debug_image.specs.DebugImage.{CanBeSaid};
 ghost use Rattle.debug_main.specs.DebugFiles.{AreParts};
 ghost use Rattle.debug_main.specs.Verdicts.{is_memory};
@@ -48,6 +48,7 @@ pub fn made<'a>(
     wanted: Wanted,
 ) -> Result<DebugParts<'a>, LinkError>
     ensures parts { IfOk result (AreParts linkage.now (meaning_views names.now) wanted) }
+    ensures said { OnOk result (CanBeSaid wanted linkage.now (meaning_views names.now)) }
     ensures status { IfErr result (λ e. error_status e ≢ 2) }
     ensures large { IfErr result (λ e. is_memory e ≡ false
         → ¬ CanBeSaid wanted linkage.now (meaning_views names.now)) }

@@ -3,7 +3,8 @@ ghost use Rattle.std.specs.Prelude.{◌≡◌, ◌⊎◌, ◌≤◌, ◌∷◌, 
 ghost use Rattle.elf_model.specs.Inputs.Command as command;
 ghost use Rattle.elf_model.specs.Inputs.Command.{command_of};
 ghost use Rattle.elf_model.specs.Inputs.Files.{File, words_of};
-ghost use Rattle.ld_main.specs.Program.{Asks, HasRightLink, TellsFailure, failure_status};
+ghost use Rattle.ld_main.specs.Program.{Asks, HasRightLink, TellsFailure, TellsUnwritten, failure_status};
+ghost use Rattle.ld_main.specs.Tasks.{AreNamedBy};
 ghost use Rattle.debug_main.specs.Verdicts.{Prints, SaysSome, answer_status};
 ghost use Rattle.debug_main.specs.Words.{IsStripped, plain_words, stands_alone};
 
@@ -13,7 +14,7 @@ use crate::verdict::DebugVerdict;
 use crate::words::{stands_alone, stripped};
 use debug_image::Wanted;
 use elf_model::LinkError;
-use ld_main::{Failure, Task, given_words, name_seed, read_input};
+use ld_main::{Failure, OutputFiles, Task, given_words, name_seed, read_input};
 use std::io;
 use std::io::Write;
 use std::random::RandomSource;
@@ -32,7 +33,7 @@ fn wanted(words: &[String]) -> Wanted
 }
 
 /// Links or checks as words say, those with which the image at the beginning is linked and checked; None after a link.
-fn run<'a, R: Files + AllocGlobal + RandomSource, E: Write>(
+fn run<'a, R: OutputFiles, E: Write>(
     rt: &R,
     words: &'a [String],
     wanted: Wanted,
@@ -54,6 +55,9 @@ fn run<'a, R: Files + AllocGlobal + RandomSource, E: Write>(
     ensures fault { (p : command.Plan) →
         command_of (words_of words.entry.now) ≡ Ok p → p.check ≡ true
         → IfErr result (λ f. 2 ≤ failure_status f) }
+    ensures named { IfOk result (λ o. is_some o ≡ false
+        → AreNamedBy (R.named rt.now) (words_of words.entry.now)) }
+    ensures unwritten { IfErr result (TellsUnwritten (R.failed rt.now)) }
 {
     let (task, files) = read_input(rt, words)?;
     let seed = name_seed(rt);
@@ -71,7 +75,7 @@ fn run<'a, R: Files + AllocGlobal + RandomSource, E: Write>(
 
 /// Runs `ld-debug` with the words with which the image at the beginning is linked and checked, and answers its exit status and
 /// whether what was to be printed was.
-fn answer<R: Files + AllocGlobal + RandomSource, O: Write, E: Write>(
+fn answer<R: OutputFiles, O: Write, E: Write>(
     rt: &R,
     words: &[String],
     wanted: Wanted,
@@ -85,6 +89,9 @@ fn answer<R: Files + AllocGlobal + RandomSource, O: Write, E: Write>(
         command_of (words_of words.now) ≡ Ok p → p.check ≡ true → result.0 ≤ 1
         → OnOk result.1 (Prints (words_of words.now) wanted result.0
         (O.contents out.old) (O.contents out.new)) }
+    ensures named { (p : command.Plan) →
+        command_of (words_of words.now) ≡ Ok p → p.check ≡ false → result.0 ≡ 0
+        → AreNamedBy (R.named rt.now) (words_of words.now) }
     ensures refused_words { IsErr (command_of (words_of words.now))
         → (result.0 ≡ 2) ⊎ (result.0 ≡ 4) }
     ensures words_alone { result.0 ≡ 2 → IsErr (command_of (words_of words.now)) }
@@ -95,10 +102,12 @@ fn answer<R: Files + AllocGlobal + RandomSource, O: Write, E: Write>(
         command_of (words_of words.now) ≡ Ok p → p.check ≡ true → result.0 ≤ 1
         → err.new ≡ err.old }
     ensures line { 2 ≤ result.0
-        → OnOk result.1 (TellsFailure result.0 (E.contents err.old) (E.contents err.new)) }
+        → OnOk result.1 (TellsFailure (R.failed rt.now) result.0
+        (E.contents err.old) (E.contents err.new)) }
     ensures link_line { (p : command.Plan) →
         command_of (words_of words.now) ≡ Ok p → p.check ≡ false → 1 ≤ result.0
-        → OnOk result.1 (TellsFailure result.0 (E.contents err.old) (E.contents err.new)) }
+        → OnOk result.1 (TellsFailure (R.failed rt.now) result.0
+        (E.contents err.old) (E.contents err.new)) }
 {
     match run(rt, words, wanted, err) {
         Ok(Some(verdict)) => (verdict.status(), verdict.print(out)),

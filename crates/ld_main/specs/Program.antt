@@ -1,5 +1,5 @@
 -- The exit statuses of the program and its lines, and what they say.
-use Rattle.std.specs.Prelude.{◌≡◌, ◌↔◌, ◌⊎◌, ℕ, List, Option, None, Some, [], ◌∷◌, ◌++◌, Bool, true, false, Ok, codes, option_map}
+use Rattle.std.specs.Prelude.{◌≡◌, ◌↔◌, ◌⊎◌, ℕ, List, Option, None, Some, [], ◌∷◌, ◌++◌, Bool, true, false, IfSome, Ok, codes, option_map}
 use Rattle.std.specs.Cow.{cow_str_bytes}
 use Rattle.std.specs.Fmt.{decimal}
 use Rattle.std.specs.Io.KnownBytes.{Appends}
@@ -50,6 +50,11 @@ abbrev pub unwritten_path : Failure → Option (List ℕ)
 unwritten_path (failure.CannotWrite path) = Some path.now
 unwritten_path _ = None
 
+-- the path that a failure says is that of an input, so isn't written
+abbrev pub overwriting_path : Failure → Option (List ℕ)
+overwriting_path (failure.Overwrites path) = Some path.now
+overwriting_path _ = None
+
 -- the path that a failure says isn't read
 abbrev pub unread_path : Failure → Option (List ℕ)
 unread_path (failure.CannotRead path) = Some (cow_str_bytes path)
@@ -64,17 +69,39 @@ abbrev pub IsUnwritten : List ℕ → WriteFault → Failure → Type 0
 IsUnwritten path write_fault.Memory f = failure_status f ≡ 4
 IsUnwritten path write_fault.Device f = (failure_status f ≡ 3) × (unwritten_path f ≡ Some path)
 
--- a failure in writing at a path, whatever the fault; and in writing outputs, at the path of one of them
-pub record IsUnwrittenAt (path : List ℕ) (f : Failure) : Type 0 where
+-- What a system did with outputs, as far as it is told: at which paths writing came to which faults, and which outputs have their names.
+abbrev pub Faults : Type 1
+Faults = List ℕ → WriteFault → Type 0
+
+abbrev pub Names : Type 1
+Names = List ℕ → Type 0
+
+-- the failure for a fault that came in writing at a path
+pub record IsUnwrittenAt (Failed : Faults) (path : List ℕ) (f : Failure) : Type 0 where
   pub fault : WriteFault
+  pub there : Failed path fault
   pub is : IsUnwritten path fault f
 
-abbrev pub IsUnwrittenMap : Option OutputPath → Failure → Type 0
-IsUnwrittenMap None f = ⊥
-IsUnwrittenMap (Some m) f = IsUnwrittenAt m.path.now f
+-- the same of a map behind its image; where it is no want of memory, the image has its name
+pub record IsUnwrittenBehind (Failed : Faults) (Named : Names) (image map : List ℕ) (f : Failure) : Type 0 where
+  pub map_is : IsUnwrittenAt Failed map f
+  pub image_is : failure_status f ≡ 3 → Named image
 
-abbrev pub IsUnwrittenOf : Outputs → Failure → Type 0
-IsUnwrittenOf o f = IsUnwrittenAt o.image.path.now f ⊎ IsUnwrittenMap o.map f
+-- the failure in writing outputs is that of the output at whose path writing came to a fault
+abbrev pub IsUnwrittenMap : Faults → Names → List ℕ → Option OutputPath → Failure → Type 0
+IsUnwrittenMap Failed Named image None f = ⊥
+IsUnwrittenMap Failed Named image (Some m) f = IsUnwrittenBehind Failed Named image m.path.now f
+
+abbrev pub IsUnwrittenOf : Faults → Names → Outputs → Failure → Type 0
+IsUnwrittenOf Failed Named o f = IsUnwrittenAt Failed o.image.path.now f ⊎ IsUnwrittenMap Failed Named o.image.path.now o.map f
+
+-- where a failure says that a path isn't written, writing there came to a fault of its device
+abbrev pub TellsUnwritten : Faults → Failure → Type 0
+TellsUnwritten Failed f = IfSome (unwritten_path f) (λ path. Failed path write_fault.Device)
+
+-- all outputs have their names
+abbrev pub AreNamed : Names → Outputs → Type 0
+AreNamed Named o = Named o.image.path.now × IfSome o.map (λ m. Named m.path.now)
 
 -- what is printed of a failure to read or to write: its line, with the path; the line of a refusal isn't said here
 abbrev pub path_line : List ℕ → List ℕ → List ℕ
@@ -84,10 +111,13 @@ abbrev pub PrintsFailure : Failure → Option (List ℕ) → Option (List ℕ) �
 PrintsFailure (failure.Refused e s) old new = Appends old new (refusal_line e (option_map (λ v. v.items) s))
 PrintsFailure (failure.CannotRead path) old new = Appends old new (path_line (codes "ld: cannot read ") (cow_str_bytes path))
 PrintsFailure (failure.CannotWrite path) old new = Appends old new (path_line (codes "ld: cannot write ") path.now)
+PrintsFailure (failure.Overwrites path) old new = Appends old new (path_line (codes "ld: cannot write ") path.now)
 
--- the line of a failure with a status is printed
-abbrev pub TellsFailure : ℕ → Option (List ℕ) → Option (List ℕ) → Type 0
-TellsFailure status old new = (f : Failure) × (failure_status f ≡ status) × PrintsFailure f old new
+-- the line of a failure with a status is printed; a path that it says isn't written is one at which writing came to a fault, or of an
+-- output that is an input
+abbrev pub TellsFailure : Faults → ℕ → Option (List ℕ) → Option (List ℕ) → Type 0
+TellsFailure Failed status old new =
+    (f : Failure) × (failure_status f ≡ status) × TellsUnwritten Failed f × PrintsFailure f old new
 
 -- the status of an outcome
 abbrev pub outcome_status : Outcome → ℕ

@@ -1,7 +1,8 @@
 -- What a run is to do, and which paths it has for that.
-use Rattle.std.specs.Prelude.{◌≡◌, ℕ, List, Bool, false, true, Option, Some, Ok, option_map}
+use Rattle.std.specs.Prelude.{◌≡◌, ℕ, List, Bool, false, true, IfSome, Some, Ok, option_map}
 use Rattle.elf_model.specs.Inputs.Command as command
 use Rattle.elf_model.specs.Inputs.Command.{command_of}
+use Rattle.ld_main.specs.Program.{Names}
 use Rattle.ld_main.specs.declared.writing.Outputs.{Outputs}
 use Rattle.ld_main.specs.declared.program.Task.{Task}
 use Rattle.ld_main.specs.declared.program.Task.TheVariants as task
@@ -24,3 +25,7 @@ IsTaskOf p (task.Check image map) = (p.check ≡ true) × (image.now ≡ p.outpu
 -- the same of each plan that words are, which is one at most
 abbrev pub IsTaskBy : List (List ℕ) → Task → Type 0
 IsTaskBy words t = (p : command.Plan) → command_of words ≡ Ok p → IsTaskOf p t
+
+-- the outputs of a link by words have their names
+abbrev pub AreNamedBy : Names → List (List ℕ) → Type 0
+AreNamedBy Named words = (p : command.Plan) → command_of words ≡ Ok p → Named p.output × IfSome p.map Named

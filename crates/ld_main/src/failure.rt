@@ -29,10 +29,13 @@ pub enum Failure<'a> {
     CannotRead(CowStr<'a>),
     /// The path of a file that was not written, or of a device that was written only in part.
     CannotWrite(&'a str),
+    /// The path of an output that is one of the files that are read, and isn't written.
+    Overwrites(&'a str),
 }
 
 impl<'a> From<LinkError> for Failure<'a> {
-    ghost from_gives = { λ error failure. failure_status failure ≡ error_status error };
+    ghost from_gives = { λ error failure.
+        (failure_status failure ≡ error_status error) × (unwritten_path failure ≡ None) };
 
     fn from(error: LinkError) -> Failure<'a> {
         Failure::Refused {
@@ -43,7 +46,8 @@ impl<'a> From<LinkError> for Failure<'a> {
 }
 
 impl<'a> From<CmdFault> for Failure<'a> {
-    ghost from_gives = { λ fault failure. failure_status failure ≡ words_status fault };
+    ghost from_gives = { λ fault failure.
+        (failure_status failure ≡ words_status fault) × (unwritten_path failure ≡ None) };
 
     fn from(fault: CmdFault) -> Failure<'a> {
         Failure::from(command_error(fault))
@@ -51,7 +55,8 @@ impl<'a> From<CmdFault> for Failure<'a> {
 }
 
 impl<'a> From<AllocError> for Failure<'a> {
-    ghost from_gives = { λ _ failure. failure_status failure ≡ 4 };
+    ghost from_gives = { λ _ failure.
+        (failure_status failure ≡ 4) × (unwritten_path failure ≡ None) };
 
     fn from(_error: AllocError) -> Failure<'a> {
         Failure::from(LinkError::Memory)
@@ -59,7 +64,8 @@ impl<'a> From<AllocError> for Failure<'a> {
 }
 
 impl<'a, T: Drop> From<AllocFailed<T>> for Failure<'a> {
-    ghost from_gives = { λ _ failure. failure_status failure ≡ 4 };
+    ghost from_gives = { λ _ failure.
+        (failure_status failure ≡ 4) × (unwritten_path failure ≡ None) };
 
     fn from(_error: AllocFailed<T>) -> Failure<'a> {
         Failure::from(LinkError::Memory)
@@ -67,7 +73,8 @@ impl<'a, T: Drop> From<AllocFailed<T>> for Failure<'a> {
 }
 
 impl<'a> From<GatherFault> for Failure<'a> {
-    ghost from_gives = { λ _ failure. 3 ≤ failure_status failure };
+    ghost from_gives = { λ _ failure.
+        (3 ≤ failure_status failure) × (unwritten_path failure ≡ None) };
 
     fn from(fault: GatherFault) -> Failure<'a> {
         match fault {
@@ -84,7 +91,7 @@ impl Failure<'_> {
     {
         match self {
             Failure::Refused { error, symbol: _ } => status_of(error),
-            Failure::CannotRead(_) | Failure::CannotWrite(_) => 3,
+            Failure::CannotRead(_) | Failure::CannotWrite(_) | Failure::Overwrites(_) => 3,
         }
     }
 
@@ -95,7 +102,9 @@ impl Failure<'_> {
         match self {
             Failure::Refused { error, symbol } => print_refusal(err, error, symbol.as_deref()),
             Failure::CannotRead(path) => writeln!(err, "ld: cannot read {}", path.as_str()),
-            Failure::CannotWrite(path) => writeln!(err, "ld: cannot write {path}"),
+            Failure::CannotWrite(path) | Failure::Overwrites(path) => {
+                writeln!(err, "ld: cannot write {path}")
+            }
         }
     }
 }
@@ -121,7 +130,8 @@ fn symbol_of(error: &LinkError) -> Option<&[u8]> {
 
 /// A refusal together with the spelling of the symbol that it names.
 pub fn refused<'a>(alloc: Global, error: LinkError) -> Failure<'a>
-    ensures { (failure_status result ≡ error_status error) ⊎ (failure_status result ≡ 4) }
+    ensures status { (failure_status result ≡ error_status error) ⊎ (failure_status result ≡ 4) }
+    ensures unwritten { unwritten_path result ≡ None }
 {
     let Some(name) = symbol_of(&error) else {
         return Failure::from(error);
@@ -160,6 +170,7 @@ pub fn unread<'a>(path: &'a str, error: &io::Error) -> Failure<'a>
     ensures device { (error_kind error.now ≡ OutOfMemory → ⊥)
         → unread_path result ≡ Some path.entry.now }
     ensures either { IsUnread path.entry.now result }
+    ensures unwritten { unwritten_path result ≡ None }
 {
     if is_of_memory(error) {
         Failure::from(LinkError::Memory)

@@ -1,9 +1,9 @@
-//! The files that a link reads: of large archives only what it looks at.
-ghost use Rattle.std.specs.Prelude.{◌≤◌, IfErr};
-ghost use Rattle.ld_main.specs.Program.{failure_status};
+//! The files that a link or its check reads: of large archives only what a link looks at.
+ghost use Rattle.std.specs.Prelude.{◌≡◌, ◌≤◌, None, IfErr};
+ghost use Rattle.ld_main.specs.Program.{failure_status, unwritten_path};
 
 use crate::failure::Failure;
-use crate::inputs::{read_files, unless_overwritten};
+use crate::inputs::unless_overwritten;
 use crate::writing::Outputs;
 use ar_index::PartFile;
 use command::Plan;
@@ -131,7 +131,8 @@ fn read_apart<'a, R: Files + AllocGlobal>(
     plan: &Plan<'_>,
     written: &[OutputPath<'a>],
 ) -> Result<HeldFiles<R::File>, Failure<'a>>
-    ensures { IfErr result (λ f. 3 ≤ failure_status f) }
+    ensures fault { IfErr result (λ f. 3 ≤ failure_status f) }
+    ensures unwritten { IfErr result (λ f. unwritten_path f ≡ None) }
 {
     let mut source = RealFiles::in_part(rt, written);
     let files = gather(rt.alloc(), plan, &mut source)?;
@@ -147,7 +148,8 @@ pub fn read_held_files<'a, R: Files + AllocGlobal>(
     plan: &Plan<'_>,
     outputs: &Outputs<'a>,
 ) -> Result<HeldFiles<R::File>, Failure<'a>>
-    ensures { IfErr result (λ f. 3 ≤ failure_status f) }
+    ensures fault { IfErr result (λ f. 3 ≤ failure_status f) }
+    ensures unwritten { IfErr result (λ f. unwritten_path f ≡ None) }
 {
     match outputs.map {
         Some(map) => read_apart(rt, plan, &[outputs.image, map]),
@@ -155,14 +157,13 @@ pub fn read_held_files<'a, R: Files + AllocGlobal>(
     }
 }
 
-/// Reads the files that a plan names, all of them whole.
-pub fn read_all_files<'a, R: Files + AllocGlobal>(
+/// Reads the files that a plan names, and of large archives only what a link looks at before it takes members.
+pub fn read_checked_files<'a, R: Files + AllocGlobal>(
     rt: &R,
     plan: &Plan<'_>,
 ) -> Result<HeldFiles<R::File>, Failure<'a>>
-    ensures { IfErr result (λ f. 3 ≤ failure_status f) }
+    ensures fault { IfErr result (λ f. 3 ≤ failure_status f) }
+    ensures unwritten { IfErr result (λ f. unwritten_path f ≡ None) }
 {
-    let files = read_files(rt, plan)?;
-    let held = HeldFiles::new(rt.alloc(), Vec::new(rt.alloc()), files)?;
-    Ok(held)
+    read_apart(rt, plan, &[])
 }

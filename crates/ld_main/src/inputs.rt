@@ -1,6 +1,6 @@
 //! The files that a run reads.
 ghost use Rattle.std.specs.Prelude.{◌≡◌, ◌≤◌, None, IfErr, IfOk, OnOk, option_copied};
-ghost use Rattle.ld_main.specs.Program.{IsUnread, failure_status, unwritten_path};
+ghost use Rattle.ld_main.specs.Program.{IsUnread, failure_status, overwriting_path, unwritten_path};
 ghost use Rattle.ld_main.specs.Tasks.{AreOutputsOf};
 
 use crate::failure::{Failure, unread};
@@ -15,6 +15,7 @@ use std::rt::Files;
 pub fn read_file<'a, R: Files + AllocGlobal>(rt: &R, path: &'a str) -> Result<Vec<u8>, Failure<'a>>
     ensures fault { IfErr result (λ f. 3 ≤ failure_status f) }
     ensures which { IfErr result (IsUnread path.entry.now) }
+    ensures unwritten { IfErr result (λ f. unwritten_path f ≡ None) }
 {
     match read_whole(rt, path) {
         Ok(Some(bytes)) => Ok(bytes),
@@ -44,10 +45,11 @@ pub fn unless_overwritten<'a>(
     ensures apart { OnOk result (overwritten.entry ≡ None) }
     ensures files { IfOk result (λ v. v ≡ files) }
     ensures fault { IfErr result (λ f. failure_status f ≡ 3) }
-    ensures which { IfErr result (λ f. unwritten_path f ≡ option_copied overwritten.entry) }
+    ensures which { IfErr result (λ f. overwriting_path f ≡ option_copied overwritten.entry) }
+    ensures unwritten { IfErr result (λ f. unwritten_path f ≡ None) }
 {
     match overwritten {
-        Some(path) => Err(Failure::CannotWrite(path)),
+        Some(path) => Err(Failure::Overwrites(path)),
         None => Ok(files),
     }
 }
@@ -58,7 +60,8 @@ fn read_apart<'a, R: Files + AllocGlobal>(
     plan: &Plan<'_>,
     written: &[OutputPath<'a>],
 ) -> Result<Vec<InputFile>, Failure<'a>>
-    ensures { IfErr result (λ f. 3 ≤ failure_status f) }
+    ensures fault { IfErr result (λ f. 3 ≤ failure_status f) }
+    ensures unwritten { IfErr result (λ f. unwritten_path f ≡ None) }
 {
     let mut source = RealFiles::new(rt, written);
     let files = gather(rt.alloc(), plan, &mut source)?;
@@ -70,7 +73,8 @@ pub fn read_files<'a, R: Files + AllocGlobal>(
     rt: &R,
     plan: &Plan<'_>,
 ) -> Result<Vec<InputFile>, Failure<'a>>
-    ensures { IfErr result (λ f. 3 ≤ failure_status f) }
+    ensures fault { IfErr result (λ f. 3 ≤ failure_status f) }
+    ensures unwritten { IfErr result (λ f. unwritten_path f ≡ None) }
 {
     read_apart(rt, plan, &[])
 }
@@ -81,7 +85,8 @@ pub fn read_other_files<'a, R: Files + AllocGlobal>(
     plan: &Plan<'_>,
     outputs: &Outputs<'a>,
 ) -> Result<Vec<InputFile>, Failure<'a>>
-    ensures { IfErr result (λ f. 3 ≤ failure_status f) }
+    ensures fault { IfErr result (λ f. 3 ≤ failure_status f) }
+    ensures unwritten { IfErr result (λ f. unwritten_path f ≡ None) }
 {
     match outputs.map {
         Some(map) => read_apart(rt, plan, &[outputs.image, map]),

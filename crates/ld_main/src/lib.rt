@@ -12,6 +12,7 @@ mod inputs;
 mod new_file;
 mod outcome;
 mod output;
+mod output_files;
 mod program;
 mod refusal_texts;
 mod writing;
@@ -28,5 +29,6 @@ pub use linker::{definitions, link_map, map_text, prepare, prepare_in, prepare_s
 pub use new_file::NewFile;
 pub use outcome::Outcome;
 pub use output::{Output, link};
+pub use output_files::{OutputFiles, Pending};
 pub use program::{Task, name_seed, read_input, run_ld};
 pub use writing::{Outputs, write_outputs};

@@ -176,7 +176,8 @@ fn create_beside<R: Files + AllocGlobal + RandomSource>(
 /// An output that is written, and has its own name yet to get where it is a new file.
 #[derive(Debug, Drop)]
 pub struct NewFile<'a> {
-    output: OutputPath<'a>,
+    /// The path that was opened for, which it gets.
+    pub output: OutputPath<'a>,
     beside: Option<PathBuf>,
 }
 

@@ -4,20 +4,22 @@ ghost use Rattle.elf_model.specs.Own.Causes.{Cause};
 ghost use Rattle.elf_model.specs.Inputs.Command as command;
 ghost use Rattle.elf_model.specs.Inputs.Command.{command_of};
 ghost use Rattle.elf_model.specs.Inputs.Files.{File, files_of, words_of};
+ghost use Rattle.elf_model.specs.Image.RightLink.{IsRightLink};
 ghost use Rattle.opening.specs.Held.{AreSearched, held_files};
 ghost use Rattle.unread_law.specs.PartFiles.{AreFilesOf};
 ghost use Rattle.linker.specs.Linkages.{HasOwnLink};
-ghost use Rattle.ld_main.specs.Program.{Asks, HasRightLink, IsUnread, Judges, JudgesSome, LinksRight, Prints, TellsFailure, failure_status, is_checked, outcome_status};
-ghost use Rattle.ld_main.specs.Tasks.{IsTaskBy, IsTaskOf, is_check};
+ghost use Rattle.ld_main.specs.Program.{AreNamed, Asks, HasRightLink, IsUnread, Judges, JudgesSome, LinksRight, Prints, TellsFailure, TellsUnwritten, failure_status, is_checked, outcome_status, unwritten_path};
+ghost use Rattle.ld_main.specs.Tasks.{AreNamedBy, IsTaskBy, IsTaskOf, is_check};
 
 use crate::content::{ImageOf, MapOf};
 use crate::failure::{Failure, refused};
-use crate::held_files::{HeldFiles, read_all_files, read_held_files};
+use crate::held_files::{HeldFiles, read_checked_files, read_held_files};
 use crate::inputs::{outputs, read_file, read_files, read_other_files};
 use crate::outcome::Outcome;
+use crate::output_files::OutputFiles;
 use crate::writing::{Outputs, write_outputs};
 use ar_index::PartFile;
-use checker::check_in;
+use checker::check_parts;
 use command::{Plan, read_words};
 use elf_model::{InputFile, LinkError, NameSeed, Verdict};
 use image_write::Linkage;
@@ -61,7 +63,7 @@ fn prepared<'a>(
 }
 
 /// Links, and writes what comes of it.
-fn link_files<'a, R: Files + AllocGlobal + RandomSource>(
+fn link_files<'a, R: OutputFiles>(
     rt: &R,
     outputs: &Outputs<'a>,
     files: &[InputFile],
@@ -72,6 +74,8 @@ fn link_files<'a, R: Files + AllocGlobal + RandomSource>(
     ensures words_alone { IfErr result (λ f. failure_status f ≡ 2
         → IsErr (command_of (words_of words.now))) }
     ensures linked { IfOk result (λ o. is_checked o ≡ false) }
+    ensures named { OnOk result (AreNamed (R.named rt.now) outputs.now) }
+    ensures unwritten { IfErr result (TellsUnwritten (R.failed rt.now)) }
 {
     let linkage = match prepared(rt.alloc(), name_seed(rt), files, words) {
         Ok(linkage) => linkage,
@@ -82,8 +86,108 @@ fn link_files<'a, R: Files + AllocGlobal + RandomSource>(
     Ok(Outcome::Linked)
 }
 
-/// What a check of an image and a map comes to, with names hashed from a seed.
+/// What a check of an image and a map comes to, with names hashed from a seed, where of archives that are searched the data of some
+/// members may not have been read: zeros stand for them. What is right is right of all files of which these were read.
 fn judged(
+    alloc: Global,
+    seed: NameSeed,
+    parts: &[PartFile],
+    files: &[InputFile],
+    words: &[String],
+    image: &[u8],
+    map: &[u8],
+) -> Result<Outcome, AllocError>
+    requires { (plan : command.Plan) → command_of (words_of words.now) ≡ Ok plan
+        → AreSearched parts.now plan }
+    ensures judged { IfOk result (Judges (held_files parts.now files.now) (words_of words.now)
+        image.now map.now) }
+    ensures all { IfOk result (λ o. outcome_status o ≡ 0
+        → (whole : List File) → AreFilesOf (record {
+          parts = parts.now;
+          wholes = files_of files.now;
+        }) whole → IsRightLink whole (words_of words.now) image.now map.now) }
+{
+    match check_parts(alloc, parts, files, words, image, map, seed)? {
+        Verdict::Yes => Ok(Outcome::Right),
+        Verdict::No(clause) => Ok(Outcome::Wrong(clause)),
+    }
+}
+
+/// Reads the image and then the map.
+fn read_outputs<'a, R: Files + AllocGlobal>(
+    rt: &R,
+    image: &'a str,
+    map: &'a str,
+) -> Result<(Vec<u8>, Vec<u8>), Failure<'a>>
+    ensures fault { IfErr result (λ f. 3 ≤ failure_status f) }
+    ensures which { IfErr result (λ f. IsUnread image.entry.now f ⊎ IsUnread map.entry.now f) }
+    ensures unwritten { IfErr result (λ f. unwritten_path f ≡ None) }
+{
+    let image = read_file(rt, image)?;
+    let map = read_file(rt, map)?;
+    Ok((image, map))
+}
+
+/// Reads the members of large archives that a link takes, where no others are needed; None where all files are to be read whole.
+fn read_parts<'a, R: Files + AllocGlobal>(
+    rt: &R,
+    files: HeldFiles<R::File>,
+    words: &[String],
+    seed: NameSeed,
+) -> Result<Option<HeldFiles<R::File>>, Failure<'a>>
+    ensures searched { IfOk result (λ r. IfSome r (λ h. (plan : command.Plan) →
+        command_of (words_of words.now) ≡ Ok plan → AreSearched h.parts.items plan)) }
+    ensures words_alone { IfErr result (λ f. failure_status f ≡ 2
+        → IsErr (command_of (words_of words.now))) }
+    ensures fault { IfErr result (λ f. 2 ≤ failure_status f) }
+    ensures unwritten { IfErr result (λ f. unwritten_path f ≡ None) }
+{
+    let plan = read_words(rt.alloc(), words)?;
+    let mut files = files;
+    files.read_wanted(rt.alloc(), &plan, seed)?;
+    if !are_searched(&plan, &files.parts) {
+        return Ok(None);
+    }
+    Ok(Some(files))
+}
+
+/// What a check comes to where archives that are searched were read in part; None where it isn't right, perhaps for what wasn't
+/// read.
+fn judged_in_part<'a, R: Files + AllocGlobal + RandomSource>(
+    rt: &R,
+    files: HeldFiles<R::File>,
+    words: &[String],
+    image: &[u8],
+    map: &[u8],
+) -> Result<Option<Outcome>, Failure<'a>>
+    ensures judged { IfOk result (λ r. IfSome r (λ o. (files : List File) × Judges files (words_of words.now)
+        image.now map.now o)) }
+    ensures right { IfOk result (λ r. IfSome r (λ o. outcome_status o ≡ 0)) }
+    ensures words_alone { IfErr result (λ f. failure_status f ≡ 2
+        → IsErr (command_of (words_of words.now))) }
+    ensures fault { IfErr result (λ f. 2 ≤ failure_status f) }
+    ensures unwritten { IfErr result (λ f. unwritten_path f ≡ None) }
+{
+    let seed = name_seed(rt);
+    let Some(files) = read_parts(rt, files, words, seed)? else {
+        return Ok(None);
+    };
+    match judged(
+        rt.alloc(),
+        seed,
+        &files.parts,
+        &files.files,
+        words,
+        image,
+        map,
+    )? {
+        Outcome::Right => Ok(Some(Outcome::Right)),
+        _ => Ok(None),
+    }
+}
+
+/// What a check of files that were read whole comes to.
+fn judged_whole(
     alloc: Global,
     seed: NameSeed,
     files: &[InputFile],
@@ -93,28 +197,34 @@ fn judged(
 ) -> Result<Outcome, AllocError>
     ensures { IfOk result (Judges (files_of files.now) (words_of words.now) image.now map.now) }
 {
-    match check_in(alloc, files, words, image, map, seed)? {
-        Verdict::Yes => Ok(Outcome::Right),
-        Verdict::No(clause) => Ok(Outcome::Wrong(clause)),
-    }
+    judged(alloc, seed, &[], files, words, image, map)
 }
 
-/// Reads the image and then the map, and checks them.
-fn check_files<'a, R: Files + AllocGlobal + RandomSource>(
+/// Reads the image and then the map, and checks them: without members of large archives that the link doesn't take, where that
+/// is enough.
+fn check_held<'a, R: Files + AllocGlobal + RandomSource>(
     rt: &R,
     image: &'a str,
     map: &'a str,
-    files: &[InputFile],
+    files: HeldFiles<R::File>,
     words: &[String],
 ) -> Result<Outcome, Failure<'a>>
-    ensures judged { IfOk result (JudgesSome (files_of files.now) (words_of words.now)) }
-    ensures fault { IfErr result (λ f. 3 ≤ failure_status f) }
-    ensures which { IfErr result (λ f. IsUnread image.entry.now f ⊎ IsUnread map.entry.now f) }
+    ensures judged { IfOk result (λ o. (files : List File) × JudgesSome files (words_of words.now) o) }
+    ensures words_alone { IfErr result (λ f. failure_status f ≡ 2
+        → IsErr (command_of (words_of words.now))) }
+    ensures fault { IfErr result (λ f. 2 ≤ failure_status f) }
+    ensures unwritten { IfErr result (λ f. unwritten_path f ≡ None) }
 {
-    let image = read_file(rt, image)?;
-    let map = read_file(rt, map)?;
-    let outcome = judged(rt.alloc(), name_seed(rt), files, words, &image, &map)?;
-    Ok(outcome)
+    let (image, map) = read_outputs(rt, image, map)?;
+    if files.parts.is_empty() {
+        return Ok(judged_whole(rt.alloc(), name_seed(rt), &files.files, words, &image, &map)?);
+    }
+    if let Some(outcome) = judged_in_part(rt, files, words, &image, &map)? {
+        return Ok(outcome);
+    }
+    let plan = read_words(rt.alloc(), words)?;
+    let files = read_files(rt, &plan)?;
+    Ok(judged_whole(rt.alloc(), name_seed(rt), &files, words, &image, &map)?)
 }
 
 /// What a plan asks for.
@@ -134,7 +244,8 @@ fn read_plan<'a, R: Files + AllocGlobal>(
     plan: &Plan<'_>,
     task: &Task<'a>,
 ) -> Result<Vec<InputFile>, Failure<'a>>
-    ensures { IfErr result (λ f. 3 ≤ failure_status f) }
+    ensures fault { IfErr result (λ f. 3 ≤ failure_status f) }
+    ensures unwritten { IfErr result (λ f. unwritten_path f ≡ None) }
 {
     match task {
         Task::Link(outputs) => read_other_files(rt, plan, outputs),
@@ -146,7 +257,7 @@ fn read_plan<'a, R: Files + AllocGlobal>(
 ///
 /// # Errors
 ///
-/// A fault of the words, or of reading a file; CannotWrite where an output is one of the files.
+/// A fault of the words, or of reading a file; Overwrites where an output is one of the files.
 pub fn read_input<'a, R: Files + AllocGlobal>(
     rt: &R,
     words: &'a [String],
@@ -155,6 +266,7 @@ pub fn read_input<'a, R: Files + AllocGlobal>(
     ensures mode { IfOk result (λ g. Asks (is_check g.0) (words_of words.entry.now)) }
     ensures command { OnOk result (IsOk (command_of (words_of words.entry.now))) }
     ensures fault { IfErr result (λ f. 2 ≤ failure_status f) }
+    ensures unwritten { IfErr result (λ f. unwritten_path f ≡ None) }
     ensures refused_words { IsErr (command_of (words_of words.entry.now)) →
         IsErrAnd result (λ f. (failure_status f ≡ 2) ⊎ (failure_status f ≡ 4)) }
     ensures words_alone { IfErr result (λ f. failure_status f ≡ 2
@@ -168,7 +280,7 @@ pub fn read_input<'a, R: Files + AllocGlobal>(
 
 /// Links files of which archives that are searched were read in part, and writes what comes of it; None where the link is refused,
 /// perhaps for what wasn't read. What is written is right of all files of which these were read.
-fn link_parts<'a, R: Files + AllocGlobal + RandomSource>(
+fn link_parts<'a, R: OutputFiles>(
     rt: &R,
     outputs: &Outputs<'a>,
     parts: &[PartFile],
@@ -187,6 +299,8 @@ fn link_parts<'a, R: Files + AllocGlobal + RandomSource>(
         }) whole → LinksRight whole (words_of words.now))) }
     ensures fault { IfErr result (λ f. 3 ≤ failure_status f) }
     ensures linked { IfOk result (λ r. IfSome r (λ o. is_checked o ≡ false)) }
+    ensures named { IfOk result (λ r. IfSome r (λ o. AreNamed (R.named rt.now) outputs.now)) }
+    ensures unwritten { IfErr result (TellsUnwritten (R.failed rt.now)) }
 {
     let linkage = match prepare_parts(rt.alloc(), parts, files, words, seed) {
         Ok(linkage) => linkage,
@@ -199,7 +313,7 @@ fn link_parts<'a, R: Files + AllocGlobal + RandomSource>(
 
 /// Reads the members of large archives that a link takes, and links, where no others are needed; None where all files are to be read
 /// whole.
-fn link_in_part<'a, R: Files + AllocGlobal + RandomSource>(
+fn link_in_part<'a, R: OutputFiles>(
     rt: &R,
     outputs: &Outputs<'a>,
     files: HeldFiles<R::File>,
@@ -210,14 +324,13 @@ fn link_in_part<'a, R: Files + AllocGlobal + RandomSource>(
     ensures words_alone { IfErr result (λ f. failure_status f ≡ 2
         → IsErr (command_of (words_of words.now))) }
     ensures linked { IfOk result (λ r. IfSome r (λ o. is_checked o ≡ false)) }
+    ensures named { IfOk result (λ r. IfSome r (λ o. AreNamed (R.named rt.now) outputs.now)) }
+    ensures unwritten { IfErr result (TellsUnwritten (R.failed rt.now)) }
 {
-    let plan = read_words(rt.alloc(), words)?;
-    let mut files = files;
     let seed = name_seed(rt);
-    files.read_wanted(rt.alloc(), &plan, seed)?;
-    if !are_searched(&plan, &files.parts) {
+    let Some(files) = read_parts(rt, files, words, seed)? else {
         return Ok(None);
-    }
+    };
     link_parts(rt, outputs, &files.parts, &files.files, words, seed)
 }
 
@@ -227,7 +340,9 @@ fn read_whole_files<'a, R: Files + AllocGlobal>(
     outputs: &Outputs<'a>,
     words: &[String],
 ) -> Result<Vec<InputFile>, Failure<'a>>
-    ensures { IfErr result (λ f. failure_status f ≡ 2 → IsErr (command_of (words_of words.now))) }
+    ensures words_alone { IfErr result (λ f. failure_status f ≡ 2
+        → IsErr (command_of (words_of words.now))) }
+    ensures unwritten { IfErr result (λ f. unwritten_path f ≡ None) }
 {
     let plan = read_words(rt.alloc(), words)?;
     let files = read_other_files(rt, &plan, outputs)?;
@@ -235,7 +350,7 @@ fn read_whole_files<'a, R: Files + AllocGlobal>(
 }
 
 /// Links files: without members of large archives that the link doesn't take, where that can be.
-fn link_held<'a, R: Files + AllocGlobal + RandomSource>(
+fn link_held<'a, R: OutputFiles>(
     rt: &R,
     outputs: &Outputs<'a>,
     files: HeldFiles<R::File>,
@@ -245,6 +360,8 @@ fn link_held<'a, R: Files + AllocGlobal + RandomSource>(
     ensures words_alone { IfErr result (λ f. failure_status f ≡ 2
         → IsErr (command_of (words_of words.now))) }
     ensures linked { IfOk result (λ o. is_checked o ≡ false) }
+    ensures named { OnOk result (AreNamed (R.named rt.now) outputs.now) }
+    ensures unwritten { IfErr result (TellsUnwritten (R.failed rt.now)) }
 {
     if files.parts.is_empty() {
         return link_files(rt, outputs, &files.files, words);
@@ -256,23 +373,23 @@ fn link_held<'a, R: Files + AllocGlobal + RandomSource>(
     link_files(rt, outputs, &files, words)
 }
 
-/// Reads the files that a plan names: where they are linked, the outputs are none of them, and of large archives only what a link
-/// looks at is read.
+/// Reads the files that a plan names, of large archives only what a link looks at before it takes members; where they are linked,
+/// the outputs are none of them.
 fn read_held_plan<'a, R: Files + AllocGlobal>(
     rt: &R,
     plan: &Plan<'_>,
     task: &Task<'a>,
 ) -> Result<HeldFiles<R::File>, Failure<'a>>
-    ensures { IfErr result (λ f. 3 ≤ failure_status f) }
+    ensures fault { IfErr result (λ f. 3 ≤ failure_status f) }
+    ensures unwritten { IfErr result (λ f. unwritten_path f ≡ None) }
 {
     match task {
         Task::Link(outputs) => read_held_files(rt, plan, outputs),
-        Task::Check(_, _) => read_all_files(rt, plan),
+        Task::Check(_, _) => read_checked_files(rt, plan),
     }
 }
 
-/// Reads the words, and the files that they name, as `read_input` does, and of large archives that are linked only what a link looks
-/// at.
+/// Reads the words, and the files that they name, as `read_input` does, and of large archives only what a link looks at.
 fn read_held_input<'a, R: Files + AllocGlobal>(
     rt: &R,
     words: &'a [String],
@@ -281,6 +398,7 @@ fn read_held_input<'a, R: Files + AllocGlobal>(
     ensures mode { IfOk result (λ g. Asks (is_check g.0) (words_of words.entry.now)) }
     ensures command { OnOk result (IsOk (command_of (words_of words.entry.now))) }
     ensures fault { IfErr result (λ f. 2 ≤ failure_status f) }
+    ensures unwritten { IfErr result (λ f. unwritten_path f ≡ None) }
     ensures refused_words { IsErr (command_of (words_of words.entry.now)) →
         IsErrAnd result (λ f. (failure_status f ≡ 2) ⊎ (failure_status f ≡ 4)) }
     ensures words_alone { IfErr result (λ f. failure_status f ≡ 2
@@ -292,10 +410,7 @@ fn read_held_input<'a, R: Files + AllocGlobal>(
     Ok((task, files))
 }
 
-fn run<'a, R: Files + AllocGlobal + RandomSource>(
-    rt: &R,
-    words: &'a [String],
-) -> Result<Outcome, Failure<'a>>
+fn run<'a, R: OutputFiles>(rt: &R, words: &'a [String]) -> Result<Outcome, Failure<'a>>
     ensures right { IfOk result (λ o. outcome_status o ≡ 0
         → HasRightLink (words_of words.entry.now)) }
     ensures judged { IfOk result (λ o. is_checked o ≡ true
@@ -308,16 +423,19 @@ fn run<'a, R: Files + AllocGlobal + RandomSource>(
     ensures fault { (p : command.Plan) →
         command_of (words_of words.entry.now) ≡ Ok p → p.check ≡ true
         → IfErr result (λ f. 2 ≤ failure_status f) }
+    ensures named { IfOk result (λ o. is_checked o ≡ false
+        → AreNamedBy (R.named rt.now) (words_of words.entry.now)) }
+    ensures unwritten { IfErr result (TellsUnwritten (R.failed rt.now)) }
 {
     let (task, files) = read_held_input(rt, words)?;
     match task {
         Task::Link(outputs) => link_held(rt, &outputs, files, words),
-        Task::Check(image, map) => check_files(rt, image, map, &files.files, words),
+        Task::Check(image, map) => check_held(rt, image, map, files, words),
     }
 }
 
 /// Runs `ld`, and answers its exit status and whether what was to be printed was.
-fn answer<R: Files + AllocGlobal + RandomSource, O: Write, E: Write>(
+fn answer<R: OutputFiles, O: Write, E: Write>(
     rt: &R,
     words: &[String],
     out: &mut O,
@@ -329,6 +447,9 @@ fn answer<R: Files + AllocGlobal + RandomSource, O: Write, E: Write>(
         command_of (words_of words.now) ≡ Ok p → p.check ≡ true → result.0 ≤ 1
         → OnOk result.1 (Prints (words_of words.now) result.0
         (O.contents out.old) (O.contents out.new)) }
+    ensures named { (p : command.Plan) →
+        command_of (words_of words.now) ≡ Ok p → p.check ≡ false → result.0 ≡ 0
+        → AreNamedBy (R.named rt.now) (words_of words.now) }
     ensures refused_words { IsErr (command_of (words_of words.now))
         → (result.0 ≡ 2) ⊎ (result.0 ≡ 4) }
     ensures words_alone { result.0 ≡ 2 → IsErr (command_of (words_of words.now)) }
@@ -340,10 +461,12 @@ fn answer<R: Files + AllocGlobal + RandomSource, O: Write, E: Write>(
         command_of (words_of words.now) ≡ Ok p → p.check ≡ true → result.0 ≤ 1
         → err.new ≡ err.old }
     ensures line { 2 ≤ result.0
-        → OnOk result.1 (TellsFailure result.0 (E.contents err.old) (E.contents err.new)) }
+        → OnOk result.1 (TellsFailure (R.failed rt.now) result.0
+        (E.contents err.old) (E.contents err.new)) }
     ensures link_line { (p : command.Plan) →
         command_of (words_of words.now) ≡ Ok p → p.check ≡ false → 1 ≤ result.0
-        → OnOk result.1 (TellsFailure result.0 (E.contents err.old) (E.contents err.new)) }
+        → OnOk result.1 (TellsFailure (R.failed rt.now) result.0
+        (E.contents err.old) (E.contents err.new)) }
 {
     match run(rt, words) {
         Ok(outcome) => (outcome.status(), outcome.print(out)),

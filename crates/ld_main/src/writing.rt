@@ -1,16 +1,12 @@
 //! The writing of a link's outputs: both are whole before either has its name.
-ghost use Rattle.std.specs.Prelude.{◌≡◌, ◌⊎◌, ◌≤◌, ℕ, List, IfErr, IfOk};
-ghost use Rattle.std.specs.Io.KnownBytes.{Appends};
-ghost use Rattle.ld_main.specs.Program.{IsUnwrittenAt, IsUnwrittenOf, failure_status};
+ghost use Rattle.std.specs.Prelude.{◌≡◌, ◌⊎◌, ◌≤◌, IfErr, OnOk};
+ghost use Rattle.ld_main.specs.Program.{AreNamed, IsUnwrittenAt, IsUnwrittenBehind, IsUnwrittenOf, TellsUnwritten, failure_status};
 
 use crate::content::Content;
-use crate::failure::{Failure, fault_of, unwritten};
-use crate::new_file::{NewFile, Opened};
-use file_io::{FileSink, OutputPath, SparseFile, SparseWrite, make_executable};
+use crate::failure::{Failure, unwritten};
+use crate::output_files::{OutputFiles, Pending};
+use file_io::OutputPath;
 use image_write::WriteFault;
-use std::alloc::Global;
-use std::fs::OpenFile;
-use std::io::{Seek, Write};
 use std::random::RandomSource;
 use std::rt::Files;
 
@@ -21,102 +17,33 @@ pub struct Outputs<'a> {
     pub map: Option<OutputPath<'a>>,
 }
 
-/// Gives a writer a content; in a regular file with nothing in it zeros are passed over.
-fn filled<W: SparseWrite + Drop, C: Content + Drop>(
-    alloc: Global,
-    writer: W,
-    is_new: bool,
-    content: C,
-) -> Result<(C, FileSink<W>), WriteFault>
-    requires { C.ready content }
-    ensures { IfOk result (λ f. (bytes : List ℕ) × C.says content bytes
-        × Appends (W.held writer) (W.held f.1.file) bytes) }
-{
-    let sink = FileSink::new(writer, is_new);
-    let (content, mut sink, done) = content.put(alloc, sink);
-    done?;
-    sink.end()?;
-    Ok((content, sink))
-}
-
-/// Fills an opened file with a content; a new one may then be run by those who may read it, where the content is a program.
-fn fill<F: Write + Seek + OpenFile + Drop, C: Content + Drop>(
-    alloc: Global,
-    file: F,
-    is_new: bool,
-    content: C,
-) -> Result<C, WriteFault>
-    requires { C.ready content }
-{
-    let (content, sink) = filled(alloc, SparseFile::new(file), is_new, content)?;
-    if is_new && content.is_program() {
-        let _ = make_executable(sink.file().file());
-    }
-    Ok(content)
-}
-
-/// A content that is written at a path, and has its name yet to get.
-#[derive(Drop)]
-struct Pending<'a, C: Drop> {
-    file: NewFile<'a>,
-    content: C,
-}
-
-/// Writes a content at a path; where it is a new file it doesn't have its name yet.
-fn written<'a, R: Files + AllocGlobal + RandomSource, C: Content + Drop>(
-    rt: &R,
-    output: OutputPath<'a>,
-    content: C,
-) -> Result<Pending<'a, C>, WriteFault>
-    requires { C.ready content }
-    ensures { IfOk result (λ w. w.file.output ≡ output.entry) }
-{
-    let Opened {
-        file,
-        is_new,
-        output,
-    } = match NewFile::open(rt, output) {
-        Ok(opened) => opened,
-        Err(error) => return Err(fault_of(&error)),
-    };
-    match fill(rt.alloc(), file, is_new, content) {
-        Ok(content) => Ok(Pending {
-            file: output,
-            content,
-        }),
-        Err(fault) => {
-            output.discard(rt);
-            Err(fault)
-        }
-    }
-}
-
 /// Gives a content its name, and hands it back.
-fn named<'a, R: Files, C: Content + Drop>(
+fn named<'a, R: OutputFiles, C: Content + Drop>(
     rt: &R,
     path: OutputPath<'a>,
     written: Pending<'a, C>,
 ) -> Result<C, Failure<'a>>
     requires { written.file.output ≡ path }
-    ensures { IfErr result (IsUnwrittenAt path.entry.path.now) }
+    ensures named { OnOk result (R.named rt.now path.entry.path.now) }
+    ensures fault { IfErr result (IsUnwrittenAt (R.failed rt.now) path.entry.path.now) }
 {
-    let Pending { file, content } = written;
-    match file.finish(rt, content.is_program()) {
-        Ok(()) => Ok(content),
-        Err(error) => Err(unwritten(path.path(), fault_of(&error))),
+    match rt.name_content(written) {
+        Ok(content) => Ok(content),
+        Err(fault) => Err(unwritten(path.path(), fault)),
     }
 }
 
 /// Writes a content at a path.
-fn write_one<'a, R: Files + AllocGlobal + RandomSource, C: Content + Drop>(
+fn write_one<'a, R: OutputFiles, C: Content + Drop>(
     rt: &R,
     path: OutputPath<'a>,
     content: C,
 ) -> Result<C, Failure<'a>>
     requires { C.ready content }
-    ensures { IfErr result (IsUnwrittenAt path.entry.path.now) }
+    ensures named { OnOk result (R.named rt.now path.entry.path.now) }
+    ensures fault { IfErr result (IsUnwrittenAt (R.failed rt.now) path.entry.path.now) }
 {
-    match written(rt, path, content) {
+    match rt.write_content(path, content) {
         Ok(written) => named(rt, path, written),
         Err(fault) => Err(unwritten(path.path(), fault)),
     }
@@ -124,15 +51,18 @@ fn write_one<'a, R: Files + AllocGlobal + RandomSource, C: Content + Drop>(
 
 /// What becomes of an image whose map can't be written: it gets its name where the map's device failed, and is removed where
 /// memory was refused.
-fn without_map<'a, R: Files, I: Content + Drop>(
+fn without_map<'a, R: OutputFiles, I: Content + Drop>(
     rt: &R,
     image_path: OutputPath<'a>,
     map_path: OutputPath<'a>,
     image: Pending<'a, I>,
     fault: WriteFault,
 ) -> Failure<'a>
-    requires { image.file.output ≡ image_path }
-    ensures { IsUnwrittenAt image_path.entry.path.now result ⊎ IsUnwrittenAt map_path.entry.path.now result }
+    requires path { image.file.output ≡ image_path }
+    requires fault { R.failed rt.now map_path.path.now fault }
+    ensures { IsUnwrittenAt (R.failed rt.now) image_path.entry.path.now result
+        ⊎ IsUnwrittenBehind (R.failed rt.now) (R.named rt.now)
+        image_path.entry.path.now map_path.entry.path.now result }
 {
     match fault {
         WriteFault::Memory => {
@@ -147,7 +77,7 @@ fn without_map<'a, R: Files, I: Content + Drop>(
 }
 
 /// Writes the image and the map before either has its name.
-fn write_both<'a, R: Files + AllocGlobal + RandomSource, I: Content + Drop, M: Content + Drop>(
+fn write_both<'a, R: OutputFiles, I: Content + Drop, M: Content + Drop>(
     rt: &R,
     image_path: OutputPath<'a>,
     map_path: OutputPath<'a>,
@@ -156,13 +86,17 @@ fn write_both<'a, R: Files + AllocGlobal + RandomSource, I: Content + Drop, M: C
 ) -> Result<I, Failure<'a>>
     requires image { I.ready image }
     requires map { M.ready map }
-    ensures { IfErr result (λ f. IsUnwrittenAt image_path.entry.path.now f ⊎ IsUnwrittenAt map_path.entry.path.now f) }
+    ensures which { IfErr result (λ f. IsUnwrittenAt (R.failed rt.now) image_path.entry.path.now f
+        ⊎ IsUnwrittenBehind (R.failed rt.now) (R.named rt.now)
+        image_path.entry.path.now map_path.entry.path.now f) }
+    ensures named { OnOk result (R.named rt.now image_path.entry.path.now
+        × R.named rt.now map_path.entry.path.now) }
 {
-    let image = match written(rt, image_path, image) {
+    let image = match rt.write_content(image_path, image) {
         Ok(image) => image,
         Err(fault) => return Err(unwritten(image_path.path(), fault)),
     };
-    let map = match written(rt, map_path, map) {
+    let map = match rt.write_content(map_path, map) {
         Ok(map) => map,
         Err(fault) => return Err(without_map(rt, image_path, map_path, image, fault)),
     };
@@ -173,25 +107,29 @@ fn write_both<'a, R: Files + AllocGlobal + RandomSource, I: Content + Drop, M: C
             return Err(failure);
         }
     };
-    named(rt, map_path, map)?;
-    Ok(image)
+    match named(rt, map_path, map) {
+        Ok(_) => Ok(image),
+        Err(failure) => Err(failure),
+    }
 }
 
 /// Writes an image, and a map where it has a path, and hands the image back.
 ///
 /// # Errors
 ///
-/// Memory, after which neither is there. CannotWrite with the path of the image, after which neither is there, or with that of
-/// the map, after which the image is there. A device may have taken a part.
-pub fn write_outputs<
-    'a,
-    R: Files + AllocGlobal + RandomSource,
-    I: Content + Drop,
-    M: Content + Drop,
->(rt: &R, outputs: &Outputs<'a>, image: I, map: M) -> Result<I, Failure<'a>>
+/// Memory, after which neither is there, but where only the map's name was refused for it. CannotWrite with the path of the
+/// image, after which neither is there, or with that of the map, after which the image is there. A device may have taken a part.
+pub fn write_outputs<'a, R: OutputFiles, I: Content + Drop, M: Content + Drop>(
+    rt: &R,
+    outputs: &Outputs<'a>,
+    image: I,
+    map: M,
+) -> Result<I, Failure<'a>>
     requires image { I.ready image }
     requires map { M.ready map }
-    ensures which { IfErr result (IsUnwrittenOf outputs.now) }
+    ensures which { IfErr result (IsUnwrittenOf (R.failed rt.now) (R.named rt.now) outputs.now) }
+    ensures named { OnOk result (AreNamed (R.named rt.now) outputs.now) }
+    ensures told { IfErr result (TellsUnwritten (R.failed rt.now)) }
     ensures least { IfErr result (λ f. 3 ≤ failure_status f) }
 {
     match outputs.map {

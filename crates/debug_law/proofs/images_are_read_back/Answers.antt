@@ -4,6 +4,7 @@ use Rattle.std.proofs.lemmas.List.{length-append, length-replicate}
 use Rattle.std.proofs.lemmas.List.Elements.{All-append, All-cons, All-nil}
 use Rattle.std.proofs.lemmas.List.FromFn.{length-map-range_with_len}
 use Rattle.elf_model.specs.Inputs.Records.{file_header}
+use Rattle.elf_model.specs.Link.Listing.{AreListed}
 use Rattle.elf_model.specs.Link.Loading.{LoadedObject}
 use Rattle.elf_model.specs.Link.Meaning.{Meaning}
 use Rattle.elf_model.specs.Link.Placement.{Placed}
@@ -21,12 +22,13 @@ use Rattle.debug_image.specs.Symbols.{Laid, local_rows, meaning_rows}
 use Rattle.debug_image.specs.Tables.{HeaderRow, Row, Tables, fields_of, header_rows, shstrtab_at, strings_row, strtab_at, symtab_at, symtab_row, tail}
 use Rattle.debug_image.specs.declared.debug_file.Wanted.{Wanted}
 use Rattle.debug_image.proofs.OwnHeaders as own
-use Rattle.debug_law.specs.ReadImages.{AreWritten, IsLaidOut, IsReadBack, StandFrom, is_local, null_header, null_row}
+use Rattle.debug_law.specs.ReadImages.{IsLaidOut, IsReadBack, StandFrom, is_local, null_header, null_row}
 use Rattle.debug_law.proofs.DataLength as length_law
 use Rattle.debug_law.proofs.DataLength.{chunks_size, data_fill}
 use Rattle.debug_law.proofs.LocalRows.{locals_local, meanings_not_local}
 use Rattle.debug_law.proofs.ReadTables.{HasTables, headers_read, is_symtab, symbols_read, three, unnamed_header, unnamed_row}
 use Rattle.debug_law.proofs.Said.{joined_kinds, joined_unnamed, locals_unnamed, meanings_unnamed, section_kinds, sections_unnamed}
+use Rattle.debug_law.proofs.Written.{AreWritten, are_written}
 use Rattle.debug_law.proofs.Zipped.{unchanged}
 use Rattle.debug_law.proofs.images_are_read_back.Goals as goal
 
@@ -74,7 +76,10 @@ unnamed_by : (wanted : Bool) (l : Laid) → All (λ r. unnamed_row r ≡ r) (con
 unnamed_by true l = locals_unnamed l
 unnamed_by false l = All-nil (λ r. unnamed_row r ≡ r)
 
-module _ (w : Wanted) (l : Linked) (ms : List Meaning) (laid : IsLaidOut l) (said : CanBeSaid w l ms) (written : AreWritten w l ms) where
+module _ (w : Wanted) (l : Linked) (ms : List Meaning) (laid : IsLaidOut l) (listed : AreListed l.objects ms) (said : CanBeSaid w l ms) where
+  written : AreWritten w l ms
+  written = are_written w l ms laid listed said
+
   abbrev t : Tables
   t = tables_in w l ms
 
@@ -169,4 +174,4 @@ module _ (w : Wanted) (l : Linked) (ms : List Meaning) (laid : IsLaidOut l) (sai
   }
 
 pub returns : goal.returns
-returns c = λ w l ms laid said written. read_back w l ms laid said written
+returns c = λ w l ms laid listed said. read_back w l ms laid listed said

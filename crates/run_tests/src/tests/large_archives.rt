@@ -66,8 +66,9 @@ static NAMES: [(&[u8], usize); 4] = [(b"g\0", 1), (b"f\0", 0), (b"i\0", 3), (b"h
 /// The header of a last member with 8 MiB of data.
 static LARGE: &[u8] = b"large.o/        0           0     0     644     8388608   `\n";
 
-/// What comes of a line on a system with an object that calls `f`, and with the archive, also behind its members the large one.
-fn outcome(alloc: Global, line: &str) -> Result<Outcome, Fail> {
+/// What comes of a line on a system with an image and a map, an object that calls `f`, and with the archive, also behind its
+/// members the large one.
+fn outcome_with(alloc: Global, image: &[u8], map: &[u8], line: &str) -> Result<Outcome, Fail> {
     let caller = relocatable(alloc, &[TEXT], &[START, NO_F], &[CALL])?;
     let small = archive(alloc, &NAMES, &MEMBERS)?;
     let mut large = Vec::from_slice(alloc, &small)?;
@@ -78,8 +79,15 @@ fn outcome(alloc: Global, line: &str) -> Result<Outcome, Fail> {
         StoredFile::sound("a.o", &caller),
         StoredFile::sound("small/libx.a", &small),
         StoredFile::sound("large/libx.a", &large),
+        StoredFile::sound("image", image),
+        StoredFile::sound("map", map),
     ];
     run_line(alloc, &stored, line)
+}
+
+/// What comes of a line where the image and the map have nothing.
+fn outcome(alloc: Global, line: &str) -> Result<Outcome, Fail> {
+    outcome_with(alloc, b"", b"", line)
 }
 
 /// Lines, and all that comes of a run beside the image. The members' headers are at 96, 764, 1312 and 1860, that of the index at 8 and of
@@ -113,5 +121,32 @@ fn images_are_those_of_small_archives(rt: HostRuntime) -> Result<(), Fail> {
         return Err(Fail::from("one image each"));
     };
     assert!(rt; one.bytes == other.bytes);
+    Ok(())
+}
+
+/// The places that a link reads, and so does its check.
+const READ: &str =
+    "read a.o\nread large/libx.a\nat 0\nat 8\nat 68\nat 96\nat 764\nat 1312\nat 1860\nat 2528\n";
+
+/// The link of the archive, its check, and one for which the image is that of an object alone.
+#[test]
+fn large_archives_are_read_where_a_check_looks(rt: HostRuntime) -> Result<(), Fail> {
+    let alloc = rt.alloc();
+    let made = outcome(alloc, "-s -o out -Map=text a.o -L large -lx")?;
+    let ([image, map], []) = made.made.as_slice().split_at(2) else {
+        return Err(Fail::from("an image and a map"));
+    };
+    let line = "-s --check -o image -Map=map a.o -L large -lx";
+    let right = outcome_with(alloc, &image.bytes, &map.bytes, line)?;
+    let wanted = format!(in alloc;
+        "{READ}read image\nread map\nat 156\nat 1372\nout: yes\n\nerr: \nstatus 0"
+    )?;
+    assert_eq!(rt; right.told, wanted);
+    // What is wrong is judged by whole files.
+    let wrong = outcome_with(alloc, &map.bytes, &map.bytes, line)?;
+    let wanted = format!(in alloc;
+        "{READ}read image\nread map\nat 156\nat 1372\nread a.o\nread large/libx.a\nout: no C4\n\nerr: \nstatus 1"
+    )?;
+    assert_eq!(rt; wrong.told, wanted);
     Ok(())
 }

@@ -2,6 +2,7 @@ use Rattle.std.proofs.Common.{◌≢◌, ◌∙◌, List, ap, subst, sym}
 use Rattle.std.specs.Prelude.{Err, Ok, Result}
 use Rattle.image_write.specs.declared.sink.WriteFault.{WriteFault}
 use Rattle.image_write.specs.declared.sink.WriteFault.TheVariants.{Device, Memory}
+use Rattle.debug_image.specs.DebugImage.{CanBeSaid}
 use Rattle.resolve.specs.Views.{meaning_views}
 use Rattle.resolve.specs.declared.definition.Definition.{Definition}
 use Rattle.debug_main.proofs.Differences.{fresh, outcome, told_right}
@@ -38,6 +39,7 @@ returns-in-Ok-clause-compared c =
     let link = c.args.linkage.now in
     let other : c.write_debug_file.result ≢ Err Memory = other_than c.write_debug_file.result (subst (λ r. IsOther r) (sym c.in-Ok.is) tt) in
     let parts = subst (λ (ns : List Definition). AreParts link (meaning_views ns) c.args.wanted c.in_ok-parts.parts) c.deref.ensures.value c.in_ok-parts.ensures.parts in
+    let said = subst (λ (ns : List Definition). CanBeSaid c.args.wanted link (meaning_views ns)) c.deref.ensures.value c.in_ok-parts.ensures.said in
     let file = file_is c.args.wanted link (meaning_views names) c.in_ok-parts.parts c.in_ok-layout.layout parts c.in_ok-layout.ensures.data in
     let made =
     outcome c.args.image.now sink.image.now (file_of c.in_ok-layout.layout c.in_ok-parts.parts) sink.same sink.wrong sink.failures c.write_debug_file.result _
@@ -45,6 +47,7 @@ returns-in-Ok-clause-compared c =
     sink.sound other in (
       names,
       c.in_ok-names.ensures,
+      said,
       subst (λ f. Compares c.args.image.now f c.difference.result) file
           (told_right c.args.image.now sink.image.now (file_of c.in_ok-layout.layout c.in_ok-parts.parts) sink.same sink.wrong c.difference.result made sink.within
           sink.differs c.difference.ensures.same c.difference.ensures.none c.difference.ensures.other),
@@ -69,6 +72,7 @@ returns-in-Err-Device-clause-compared c =
     let link = c.args.linkage.now in
     let other : c.write_debug_file.result ≢ Err Memory = other_than c.write_debug_file.result (subst (λ r. IsOther r) (sym (c.in-Err-Device.is ∙ ap Err c.in-Err-Device.field-0-is)) tt) in
     let parts = subst (λ (ns : List Definition). AreParts link (meaning_views ns) c.args.wanted c.in_ok-parts.parts) c.deref.ensures.value c.in_ok-parts.ensures.parts in
+    let said = subst (λ (ns : List Definition). CanBeSaid c.args.wanted link (meaning_views ns)) c.deref.ensures.value c.in_ok-parts.ensures.said in
     let file = file_is c.args.wanted link (meaning_views names) c.in_ok-parts.parts c.in_ok-layout.layout parts c.in_ok-layout.ensures.data in
     let made =
     outcome c.args.image.now sink.image.now (file_of c.in_ok-layout.layout c.in_ok-parts.parts) sink.same sink.wrong sink.failures c.write_debug_file.result _
@@ -76,6 +80,7 @@ returns-in-Err-Device-clause-compared c =
     sink.sound other in (
       names,
       c.in_ok-names.ensures,
+      said,
       subst (λ f. Compares c.args.image.now f c.difference-in-Err-Device.result) file
           (told_right c.args.image.now sink.image.now (file_of c.in_ok-layout.layout c.in_ok-parts.parts) sink.same sink.wrong c.difference-in-Err-Device.result made sink.within
           sink.differs c.difference-in-Err-Device.ensures.same c.difference-in-Err-Device.ensures.none c.difference-in-Err-Device.ensures.other),

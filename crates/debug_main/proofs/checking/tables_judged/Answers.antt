@@ -20,11 +20,11 @@ use Rattle.debug_main.proofs.checking.tables_judged.Goals as goal
 -- a difference is told of the image for tools
 other :
     (files : List File) (words : List (List ℕ)) (w : Wanted) (image : List ℕ) (l : Linked) (d : Difference) → IsPrepared files words l → HasOwnLink files words l →
-    ((names : List code.Definition) × IsListing l.objects names × Compares image (debug_file w l (meaning_views names)) (Some d)) → IsOther files words w image d
+    ((names : List code.Definition) × IsListing l.objects names × CanBeSaid w l (meaning_views names) × Compares image (debug_file w l (meaning_views names)) (Some d)) → IsOther files words w image d
 other files words w image l d prepared own made =
     let wanted : List ℕ = debug_file w l (meaning_views made.0) in
-    let one : IsToolImage files words w wanted = record { link = l; names = made.0; prepared = prepared; own = own; listing = made.1; is = refl } in
-    record { wanted = wanted; one = one; difference = made.2; none = no_other files words w image wanted d one made.2 }
+    let one : IsToolImage files words w wanted = record { link = l; names = made.0; prepared = prepared; own = own; listing = made.1; said = made.2; is = refl } in
+    record { wanted = wanted; one = one; difference = made.3; none = no_other files words w image wanted d one made.3 }
 
 -- that is told, or that there are no sections for tools
 told :
@@ -37,14 +37,14 @@ pub returns-in-Ok-Some : goal.returns-in-Ok-Some
 returns-in-Ok-Some c =
     let files = files_of c.args.files.now in
     let words = words_of c.args.words.now in
-    let made = subst (λ r. (names : List code.Definition) × IsListing c.in-Ok.linkage.objects names × Compares c.args.image.now (debug_file c.args.wanted c.in-Ok.linkage (meaning_views names)) r) c.in-Ok-Some.field-0-is c.in-Ok-Some.ensures.compared in
+    let made = subst (λ r. (names : List code.Definition) × IsListing c.in-Ok.linkage.objects names × CanBeSaid c.args.wanted c.in-Ok.linkage (meaning_views names) × Compares c.args.image.now (debug_file c.args.wanted c.in-Ok.linkage (meaning_views names)) r) c.in-Ok-Some.field-0-is c.in-Ok-Some.ensures.compared in
     told files words c.args.wanted c.args.image.now c.in-Ok-Some.at c.told.result
     (other files words c.args.wanted c.args.image.now c.in-Ok.linkage c.in-Ok-Some.at c.in-Ok.ensures.prepared c.in-Ok.ensures.right made) c.told.ensures
 
 pub returns-in-Ok-None : goal.returns-in-Ok-None
 returns-in-Ok-None c =
-    let made = subst (λ r. (names : List code.Definition) × IsListing c.in-Ok.linkage.objects names × Compares c.args.image.now (debug_file c.args.wanted c.in-Ok.linkage (meaning_views names)) r) c.in-Ok-None.field-0-is c.in-Ok-None.ensures.compared in
-    record { link = c.in-Ok.linkage; names = made.0; prepared = c.in-Ok.ensures.prepared; own = c.in-Ok.ensures.right; listing = made.1; is = made.2 }
+    let made = subst (λ r. (names : List code.Definition) × IsListing c.in-Ok.linkage.objects names × CanBeSaid c.args.wanted c.in-Ok.linkage (meaning_views names) × Compares c.args.image.now (debug_file c.args.wanted c.in-Ok.linkage (meaning_views names)) r) c.in-Ok-None.field-0-is c.in-Ok-None.ensures.compared in
+    record { link = c.in-Ok.linkage; names = made.0; prepared = c.in-Ok.ensures.prepared; own = c.in-Ok.ensures.right; listing = made.1; said = made.2; is = made.3 }
 
 -- the numbers of what would be the image can't be said
 large :
