@@ -1,9 +1,10 @@
 #!/usr/bin/env bash
 # Says in seconds what would fail the gate after an hour: a file that `rt fmt` would change, a wrong body that no longer
-# fits the text, a handle of std that HANDLES doesn't allow, and a symbolic link; and where docs/CALLS.md isn't what the contracts say, or
-# docs/PROOFS.md what the heads of the lemmas do, where docs/PROMISES.md or README.md names a call or a clause that isn't
-# there, where a crate of the checker names the linker's own layout, or, where mandoc is there, it complains of a man
-# page. It works on a copy of the tree, committed or not, and changes nothing.
+# fits the text, a module with the name of a library below it, a handle of std that HANDLES doesn't allow, and a symbolic
+# link; and where docs/CALLS.md isn't what the contracts say, or docs/PROOFS.md what the heads of the lemmas do, where
+# docs/PROMISES.md or README.md names a call or a clause that isn't there, where a crate of the checker names the linker's
+# own layout, or, where mandoc is there, it complains of a man page. It works on a copy of the tree, committed or not, and
+# changes nothing.
 # usage: tools/quick_check.sh; the exit status is 1 where it finds something.
 set -u
 
@@ -27,6 +28,7 @@ for crate in "$copy"/crates/*/; do
     done
 done
 tools/try_edits.py --only-read || failed=1
+tools/module_names.py || failed=1
 tools/promises.py --check || failed=1
 tools/lemmas.py --check || failed=1
 for crate in check_load check_link check_relocs check_stages check_places check_tables checker; do
