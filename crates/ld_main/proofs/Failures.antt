@@ -1,6 +1,6 @@
 -- Failures to write have the status of memory or of a device, and tell the path of the output that failed.
 use Rattle.std.proofs.Common.{◌≡◌, ◌≤◌, ℕ, List, arith, inl, inr, subst, sym}
-use Rattle.std.specs.Prelude.{IfSome, None, Option, Some, option_map}
+use Rattle.std.specs.Prelude.{Err, IfErr, IfSome, None, Option, Result, Some, option_map}
 use Rattle.elf_model.specs.Inputs.Command.{Plan}
 use Rattle.file_io.specs.declared.file_ids.OutputPath.{OutputPath}
 use Rattle.image_write.specs.declared.sink.WriteFault.{WriteFault}
@@ -61,3 +61,8 @@ named_map Named (Some m) named = named
 pub named_of : (Named : Names) (p : Plan) (o : Outputs) → AreOutputsOf p o → AreNamed Named o → Named p.output × IfSome p.map Named
 named_of Named p o are named =
     (subst Named are.image named.0, subst (λ (m : Option (List ℕ)). IfSome m Named) are.map (named_map Named o.map named.1))
+
+-- what is so of a failure is so of a result that hands it on
+pub passed_on :
+    {X : Type 0} (P : Failure → Type 0) (r : Result X Failure) (f : Failure) → (e : Failure) × (r ≡ Err e) × (e ≡ f) → P f → IfErr r P
+passed_on {X} P r f is so = subst (λ (s : Result X Failure). IfErr s P) (sym is.1) (subst P (sym is.2) so)

@@ -1,18 +1,15 @@
-use Rattle.std.proofs.Common.{◌≡◌, ◌≤◌, sym, subst, arith}
-use Rattle.std.specs.Prelude.{Err, IfErr, Result}
+use Rattle.std.proofs.Common.{◌≡◌, arith}
 use Rattle.std.proofs.lemmas.Result.{err_from_is_err_and}
-use Rattle.ld_main.specs.Program.{failure_status}
-use Rattle.ld_main.specs.declared.failure.Failure.{Failure}
+use Rattle.ld_main.proofs.Failures.{passed_on}
 use Rattle.ld_main.proofs.program.link_files.Goals as goal
-
--- a failure of another status than that of the words
-unwritten :
-    {X : Type 0} (Q : Type 0) (r : Result X Failure) (f : Failure) → (e : Failure) × (r ≡ Err e) × (e ≡ f) → 3 ≤ failure_status f →
-    IfErr r (λ e. failure_status e ≡ 2 → Q)
-unwritten {X} Q r f is high =
-    subst (λ (s : Result X Failure). IfErr s (λ e. failure_status e ≡ 2 → Q)) (sym is.1)
-    (subst (λ (e : Failure). failure_status e ≡ 2 → Q) (sym is.2) (λ two. absurd (omega (arith, two, high))))
 
 pub returns-in_err-write_outputs-clause-words_alone : goal.returns-in_err-write_outputs-clause-words_alone
 returns-in_err-write_outputs-clause-words_alone g c =
-    unwritten _ c.from_residual.result c.in_err-write_outputs.field-0.0 (err_from_is_err_and c.from_residual.result c.from_residual.ensures.1) c.in_err-write_outputs.ensures.least
+    let high = c.in_err-write_outputs.ensures.least in
+    passed_on _ c.from_residual.result c.in_err-write_outputs.field-0.0 (err_from_is_err_and c.from_residual.result c.from_residual.ensures.1)
+    (λ two. absurd (omega (arith, two, high)))
+
+pub returns-in_err-write_outputs-clause-unwritten : goal.returns-in_err-write_outputs-clause-unwritten
+returns-in_err-write_outputs-clause-unwritten g c =
+    passed_on _ c.from_residual.result c.in_err-write_outputs.field-0.0 (err_from_is_err_and c.from_residual.result c.from_residual.ensures.1)
+    c.in_err-write_outputs.ensures.told

@@ -1,12 +1,8 @@
-use Rattle.std.proofs.Common.{◌≤◌, subst, sym}
-use Rattle.std.specs.Prelude.{IfErr, Option, Result}
 use Rattle.std.proofs.lemmas.Result.{err_from_is_err_and}
-use Rattle.ld_main.specs.Program.{failure_status}
-use Rattle.ld_main.specs.declared.failure.Failure.{Failure}
-use Rattle.ld_main.specs.declared.outcome.Outcome.{Outcome}
 use Rattle.elf_model.specs.Inputs.Files.{files_of, words_of}
 use Rattle.image_write.specs.Linkages.{own_image}
 use Rattle.unread_law.proofs.PartLinks.{right_of_all}
+use Rattle.ld_main.proofs.Failures.{passed_on}
 use Rattle.ld_main.proofs.program.link_parts.Goals as goal
 
 pub returns-clause-all : goal.returns-clause-all
@@ -21,6 +17,10 @@ returns-clause-all g c low whole of =
 
 pub returns-in_err-write_outputs-clause-fault : goal.returns-in_err-write_outputs-clause-fault
 returns-in_err-write_outputs-clause-fault g c =
-    let is = err_from_is_err_and c.from_residual.result c.from_residual.ensures.1 in
-    subst (λ (s : Result (Option Outcome) Failure). IfErr s (λ e. 3 ≤ failure_status e)) (sym is.1)
-    (subst (λ (e : Failure). 3 ≤ failure_status e) (sym is.2) c.in_err-write_outputs.ensures.least)
+    passed_on _ c.from_residual.result c.in_err-write_outputs.field-0.0 (err_from_is_err_and c.from_residual.result c.from_residual.ensures.1)
+    c.in_err-write_outputs.ensures.least
+
+pub returns-in_err-write_outputs-clause-unwritten : goal.returns-in_err-write_outputs-clause-unwritten
+returns-in_err-write_outputs-clause-unwritten g c =
+    passed_on _ c.from_residual.result c.in_err-write_outputs.field-0.0 (err_from_is_err_and c.from_residual.result c.from_residual.ensures.1)
+    c.in_err-write_outputs.ensures.told
