@@ -47,7 +47,7 @@ pub struct Row {
 }
 
 /// The keywords of `-z`; those that begin so have a value that is not judged.
-static KEYWORDS: [Row; 17] = [
+static KEYWORDS: [Row; 18] = [
     Row {
         text: "muldefs",
         form: Form::Alone(Switch::TakesFirst),
@@ -109,6 +109,10 @@ static KEYWORDS: [Row; 17] = [
         form: Form::Alone(Switch::Nothing),
     },
     Row {
+        text: "nostart-stop-gc",
+        form: Form::Alone(Switch::Nothing),
+    },
+    Row {
         text: "max-page-size=",
         form: Form::Joined(Text::Any),
     },
@@ -119,7 +123,7 @@ static KEYWORDS: [Row; 17] = [
 ];
 
 /// The words.
-static ROWS: [Row; 64] = [
+static ROWS: [Row; 85] = [
     Row {
         text: "-o",
         form: Form::Next(Value::Text(Text::Output)),
@@ -375,6 +379,90 @@ static ROWS: [Row; 64] = [
     Row {
         text: "-dynamic-linker",
         form: Form::Next(Value::Text(Text::Any)),
+    },
+    Row {
+        text: "--no-dynamic-linker",
+        form: Form::Alone(Switch::Nothing),
+    },
+    Row {
+        text: "--no-pie",
+        form: Form::Alone(Switch::Nothing),
+    },
+    Row {
+        text: "-no-pie",
+        form: Form::Alone(Switch::Nothing),
+    },
+    Row {
+        text: "-Bstatic",
+        form: Form::Alone(Switch::Nothing),
+    },
+    Row {
+        text: "--no-undefined",
+        form: Form::Alone(Switch::Nothing),
+    },
+    Row {
+        text: "--no-warn-rwx-segments",
+        form: Form::Alone(Switch::Nothing),
+    },
+    Row {
+        text: "--no-warn-execstack",
+        form: Form::Alone(Switch::Nothing),
+    },
+    Row {
+        text: "--no-warn-mismatch",
+        form: Form::Alone(Switch::Nothing),
+    },
+    Row {
+        text: "--fatal-warnings",
+        form: Form::Alone(Switch::Nothing),
+    },
+    Row {
+        text: "--no-fatal-warnings",
+        form: Form::Alone(Switch::Nothing),
+    },
+    Row {
+        text: "--warn-common",
+        form: Form::Alone(Switch::Nothing),
+    },
+    Row {
+        text: "--print-gc-sections",
+        form: Form::Alone(Switch::Nothing),
+    },
+    Row {
+        text: "--no-demangle",
+        form: Form::Alone(Switch::Nothing),
+    },
+    Row {
+        text: "--demangle",
+        form: Form::Alone(Switch::Nothing),
+    },
+    Row {
+        text: "--enable-new-dtags",
+        form: Form::Alone(Switch::Nothing),
+    },
+    Row {
+        text: "--disable-new-dtags",
+        form: Form::Alone(Switch::Nothing),
+    },
+    Row {
+        text: "--no-ld-generated-unwind-info",
+        form: Form::Alone(Switch::Nothing),
+    },
+    Row {
+        text: "-t",
+        form: Form::Alone(Switch::Nothing),
+    },
+    Row {
+        text: "--trace",
+        form: Form::Alone(Switch::Nothing),
+    },
+    Row {
+        text: "--cref",
+        form: Form::Alone(Switch::Nothing),
+    },
+    Row {
+        text: "--color-diagnostics",
+        form: Form::Alone(Switch::Nothing),
     },
 ];
 

@@ -1,7 +1,7 @@
 -- F13. The section headers and the symbol table of an image, where it has them: they are true (System V gABI 4, "Sections",
 -- "Symbol Table"). Programs run without them; debuggers and profilers believe them.
-use Rattle.std.specs.Prelude.{◌≡◌, ◌⊎◌, ℕ, ◌+◌, ◌-◌, ◌*◌, ◌%◌, ◌^◌, ◌<◌, ◌≤◌, ◌==◌, ◌&&◌, ◌||◌, Bool, true, false, not, cond, List, [], ◌∷◌, None, Some, All, Any, IsSomeAnd, bit_and, codes, drop, find, is_some, length, nat_le, nat_lt, unwrap_or, count_by}
-use Rattle.std.specs.List.{list_any, prefix_len, slice_get}
+use Rattle.std.specs.Prelude.{◌≡◌, ◌⊎◌, ℕ, ◌+◌, ◌-◌, ◌*◌, ◌%◌, ◌^◌, ◌<◌, ◌≤◌, ◌==◌, ◌&&◌, ◌||◌, Bool, true, false, not, cond, List, [], ◌∷◌, None, Some, All, Any, IsSomeAnd, bit_and, codes, drop, find, is_some, length, nat_eq, nat_le, nat_lt, unwrap_or, count_by}
+use Rattle.std.specs.List.{ends_with, list_any, prefix_len, slice_get}
 use Rattle.std.specs.Option.{option_map_or}
 use Rattle.std.specs.Str.{bytes_eq}
 use Rattle.byteview.specs.Numbers.{part, text}
@@ -165,16 +165,19 @@ pub record IsMissing (l : ForeignLink) (name : List ℕ) (e : entry.Symbol) : Ty
   pub weak : (is_weak e ≡ true) ⊎ (binding e ≡ STB_LOCAL)
   pub none : object_or_linker l name ≡ None
 
--- The names that linkers make of themselves and no object defines: those of dynamic linking, and bounds of sections that the
--- image hasn't; and those that compilers give the ends of the list of call frames. They are LOCAL, and whatever value they have is
--- nobody's.
+-- The names that linkers make of themselves and no object defines: those of dynamic linking, bounds of sections that the
+-- image hasn't, and mold's of slots of the GOT; and those that compilers give the ends of the list of call frames. They are LOCAL, and
+-- whatever value they have is nobody's.
 abbrev pub made_names : List (List ℕ)
 made_names =
     codes "_DYNAMIC" ∷ codes "_PROCEDURE_LINKAGE_TABLE_" ∷ codes "_TLS_MODULE_BASE_" ∷ codes "__GNU_EH_FRAME_HDR" ∷ codes "__dso_handle"
     ∷ codes "__rela_iplt_start" ∷ codes "__rela_iplt_end" ∷ codes "__EH_FRAME_BEGIN__" ∷ codes "__FRAME_END__" ∷ []
 
+abbrev pub is_slot_name : List ℕ → Bool
+is_slot_name name = ends_with nat_eq name (codes "$got") || ends_with nat_eq name (codes "$gottp")
+
 abbrev pub is_made_name : List ℕ → Bool
-is_made_name name = list_any (bytes_eq name) made_names || (is_start_name name || is_stop_name name)
+is_made_name name = list_any (bytes_eq name) made_names || (is_slot_name name || (is_start_name name || is_stop_name name))
 
 pub record IsMade (l : ForeignLink) (name : List ℕ) (e : entry.Symbol) : Type 0 where
   pub known : is_made_name name ≡ true

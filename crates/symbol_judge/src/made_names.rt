@@ -3,7 +3,7 @@ ghost use Rattle.std.specs.Prelude.{◌≡◌, ◌||◌};
 ghost use Rattle.std.specs.List.{list_any};
 ghost use Rattle.std.specs.Str.{bytes_eq};
 ghost use Rattle.elf_model.specs.Link.LinkerNames.{is_start_name, is_stop_name};
-ghost use Rattle.judge_model.specs.Tables.{is_made_name, made_names};
+ghost use Rattle.judge_model.specs.Tables.{is_made_name, is_slot_name, made_names};
 
 use check_link::output_bound;
 
@@ -33,9 +33,16 @@ fn is_of_output(name: &[u8]) -> bool
     output_bound(name).is_some()
 }
 
+/// Whether a name is one that mold gives a slot of the GOT: the name of what it has, and what that is.
+fn is_of_slot(name: &[u8]) -> bool
+    ensures { result ≡ is_slot_name name.now }
+{
+    name.ends_with(b"$got") || name.ends_with(b"$gottp")
+}
+
 /// Whether a name is one that linkers make of themselves.
 pub fn is_made_name(name: &[u8]) -> bool
     ensures { result ≡ is_made_name name.now }
 {
-    is_listed(name) || is_of_output(name)
+    is_listed(name) || is_of_slot(name) || is_of_output(name)
 }

@@ -136,8 +136,8 @@ const LOCALS: u32 = 6;
 
 /// Another entry at a number, with which the table is right: no type; no section; a linker's name in any section, as an object, and with
 /// a size; an object in a section that has nothing in any section too; no thread-local object; the first entry may be any LOCAL one; a LOCAL
-/// entry of what nothing defines.
-static RIGHT: [(usize, Entry); 11] = [
+/// entry of what nothing defines; names that linkers make of themselves, mold's of slots among them.
+static RIGHT: [(usize, Entry); 15] = [
     (6, Entry("main", 0x10, 1, 0x20_10e8, 0)),
     (6, Entry("main", 0x12, ABSOLUTE, 0x20_10e8, 0)),
     (5, Entry("helper", 0x00, 1, 0x20_10ea, 0)),
@@ -149,12 +149,16 @@ static RIGHT: [(usize, Entry); 11] = [
     (11, Entry("main", 0x12, 1, 0x20_10e8, 0)),
     (0, Entry("main", 0x00, 7, 5, 9)),
     (5, Entry("maybe", 0x00, 0, 0, 0)),
+    (5, Entry("_DYNAMIC", 0x01, 2, 1, 0)),
+    (5, Entry("__stop_none", 0x00, ABSOLUTE, 7, 0)),
+    (5, Entry("helper$got", 0x01, 2, 0x20_10f0, 0)),
+    (5, Entry("state$gottp", 0x00, 2, 0x20_10f0, 0)),
 ];
 
 /// One with which it isn't: another value, size, type, binding, section, the value of another definition; a LOCAL name with the
 /// value of another name; another address of a LOCAL name, a LOCAL name that isn't LOCAL here; a number in a section
-/// that takes up no memory.
-static WRONG: [(usize, Entry); 31] = [
+/// that takes up no memory; a name that linkers make of themselves with a size, as a function, and another one that nothing defines.
+static WRONG: [(usize, Entry); 34] = [
     (6, Entry("main", 0x12, 1, 0x20_10e9, 0)),
     (6, Entry("main", 0x12, 1, 0x20_10e8, 1)),
     (6, Entry("main", 0x11, 1, 0x20_10e8, 0)),
@@ -186,6 +190,9 @@ static WRONG: [(usize, Entry); 31] = [
     (14, Entry("_end", 0x10, ABSOLUTE, 0x20_1101, 0)),
     (14, Entry("_end", 0x12, ABSOLUTE, 0x20_1100, 0)),
     (14, Entry("_end", 0x10, 0, 0x20_1100, 0)),
+    (5, Entry("helper$got", 0x01, 2, 0x20_10f0, 8)),
+    (5, Entry("helper$got", 0x02, 2, 0x20_10f0, 0)),
+    (5, Entry("helpergot", 0x01, 2, 0x20_10f0, 0)),
 ];
 
 /// Entries of files and sections that aren't: another value, section and binding, another address.

@@ -41,7 +41,7 @@ const PLAIN: Asked = Asked {
 };
 
 /// Words, and what they ask for; None where they are none that is judged.
-static ROWS: [(&str, Option<Asked>); 20] = [
+static ROWS: [(&str, Option<Asked>); 22] = [
     ("a.o b.o", Some(PLAIN)),
     // As gcc -static hands them on, with two libraries in a group.
     (
@@ -107,6 +107,14 @@ static ROWS: [(&str, Option<Asked>); 20] = [
         "--eh-frame-hdr --push-state --as-needed a.o --pop-state --no-eh-frame-hdr b.o",
         Some(PLAIN),
     ),
+    // Words that change nothing of what a static link is, as builds of kernels and of firmware give them.
+    (
+        "--gc-sections --print-gc-sections -z nostart-stop-gc --no-dynamic-linker -no-pie --no-pie -Bstatic --no-undefined --no-warn-rwx-segments --no-warn-execstack --fatal-warnings --no-fatal-warnings --warn-common --no-warn-mismatch --cref -t --trace --demangle --no-demangle --enable-new-dtags --disable-new-dtags --no-ld-generated-unwind-info --color-diagnostics a.o b.o",
+        Some(Asked {
+            collects: true,
+            ..PLAIN
+        }),
+    ),
     // What is no static link, or no word of the table.
     ("--eh-frame-hdr=no a.o b.o", None),
     ("-shared a.o", None),
@@ -116,6 +124,7 @@ static ROWS: [(&str, Option<Asked>); 20] = [
     ("--defsym=x=1 a.o", None),
     ("-m elf_i386 a.o", None),
     ("-z nonsense a.o", None),
+    ("-z start-stop-gc a.o", None),
     ("-Ttext=zz a.o", None),
     // No group may have an object or stay open, and there must be something to link.
     ("--start-group a.o --end-group", None),
