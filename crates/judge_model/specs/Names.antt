@@ -63,7 +63,8 @@ IsDataEnd l v = IsEnd l (end_of_pieces is_file_data (placed_of l)) v ⊎ IsEnd l
 
 -- Where zeros begin, that is sections of them which aren't empty: at the least address of these, or before it on the pages of a
 -- segment that is written and behind whatever comes before. Where there are none, at the end of data or where an empty section of
--- zeros is, but behind all data, and where there are no data either behind all sections: programs clear from there to the end of all.
+-- zeros is, but behind all data, and where there are no data either behind all sections, notes and areas: programs clear from there to
+-- the end of all.
 abbrev pub is_some_zeros : Piece → Bool
 is_some_zeros p = is_zero_data p && nat_lt 0 p.size
 
@@ -83,6 +84,7 @@ pub record IsStartOfNoZeros (l : ForeignLink) (v : ℕ) : Type 0 where
   pub at : IsDataEnd l v ⊎ (start_of_pieces is_zero_data (placed_of l) ≡ Some v)
   pub behind : end_of_pieces is_some_small_data (placed_of l) ≤ v
   pub alone : end_of_pieces is_some_small_data (placed_of l) ≡ 0 → end_of_pieces is_loaded_piece (placed_of l) ≤ v
+  pub spares : end_of_pieces is_some_small_data (placed_of l) ≡ 0 → All (λ n. n.address + n.size ≤ v) (l.certificate.notes ++ l.certificate.areas)
 
 abbrev pub IsZeroStart : ForeignLink → ℕ → Option ℕ → Type 0
 IsZeroStart l v None = IsStartOfNoZeros l v

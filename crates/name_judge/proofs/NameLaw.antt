@@ -95,6 +95,15 @@ module _ (l : ForeignLink) where
         from (inl e) = inl (own.1 e)
         from (inr s) = inr s
 
+    filled_to : (v : ℕ) → m.filled_end ≤ v → All (λ n. n.address + n.size ≤ v) (l.certificate.notes ++ l.certificate.areas)
+    filled_to v h =
+        All-weaker (EndsBy v) (λ n. n.address + n.size ≤ v) (λ n e. e.end) (l.certificate.notes ++ l.certificate.areas) ((marks.filled_end.told v).0 h)
+
+    filled_of : (v : ℕ) → All (λ n. n.address + n.size ≤ v) (l.certificate.notes ++ l.certificate.areas) → m.filled_end ≤ v
+    filled_of v h =
+        (marks.filled_end.told v).1
+        (All-weaker (λ n. n.address + n.size ≤ v) (EndsBy v) (λ n e. record { end = e }) (l.certificate.notes ++ l.certificate.areas) h)
+
     zeros_iff :
         (start : Option ℕ) (v : ℕ) → IfSome start (λ a. IsLastIn (things_of l) a m.zero_last) →
         ZerosStart (loads l.image) m start v ↔ IsZeroStart l v start
@@ -103,12 +112,14 @@ module _ (l : ForeignLink) where
         at = at_to h.at;
         behind = subst (λ (n : ℕ). n ≤ v) marks.some_end h.kept.behind;
         alone = λ none. subst (λ (n : ℕ). n ≤ v) marks.image_end (h.kept.alone (marks.some_end ∙ none));
+        spares = λ none. filled_to v (h.kept.spares (marks.some_end ∙ none));
       },
       λ h. record {
         at = at_of h.at;
         kept = record {
           behind = subst (λ (n : ℕ). n ≤ v) (sym marks.some_end) h.behind;
           alone = λ none. subst (λ (n : ℕ). n ≤ v) (sym marks.image_end) (h.alone (sym marks.some_end ∙ none));
+          spares = λ none. filled_of v (h.spares (sym marks.some_end ∙ none));
         };
       },
     )
@@ -150,15 +161,12 @@ module _ (l : ForeignLink) where
     all_end v = (
       λ h. record {
         behind = subst (λ (n : ℕ). n ≤ v) marks.image_end h.behind;
-        filled =
-            All-weaker (EndsBy v) (λ n. n.address + n.size ≤ v) (λ n e. e.end) (l.certificate.notes ++ l.certificate.areas) ((marks.filled_end.told v).0 h.filled);
+        filled = filled_to v h.filled;
         near = subst (λ (n : ℕ). v ≤ n) marks.limit h.near;
       },
       λ h. record {
         behind = subst (λ (n : ℕ). n ≤ v) (sym marks.image_end) h.behind;
-        filled =
-            (marks.filled_end.told v).1
-            (All-weaker (λ n. n.address + n.size ≤ v) (EndsBy v) (λ n e. record { end = e }) (l.certificate.notes ++ l.certificate.areas) h.filled);
+        filled = filled_of v h.filled;
         near = subst (λ (n : ℕ). v ≤ n) (sym marks.limit) h.near;
       },
     )

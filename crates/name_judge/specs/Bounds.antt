@@ -69,8 +69,8 @@ abbrev pub IsNowhereIn : List ProgramHeader → Marks → ℕ → Type 0
 IsNowhereIn hs m v = (v ≡ 0) ⊎ IsReached hs m v
 
 -- where zeros begin, or before that on the pages of a segment that is written and behind whatever comes before; where there
--- are none at the end of data or where an empty section of zeros is, behind all data, and behind all sections where there are none of
--- these either
+-- are none at the end of data or where an empty section of zeros is, behind all data, and behind all sections, notes and areas where
+-- there are none of these either
 pub record IsAheadMark (hs : List ProgramHeader) (start : ℕ) (last : Option ℕ) (v : ℕ) : Type 0 where
   pub ahead : v ≤ start
   pub inside : Any (HasPages start v) hs
@@ -82,6 +82,7 @@ BeginsAt hs start last v = (v ≡ start) ⊎ IsAheadMark hs start last v
 pub record IsBehindData (m : Marks) (v : ℕ) : Type 0 where
   pub behind : m.some_end ≤ v
   pub alone : m.some_end ≡ 0 → m.image_end ≤ v
+  pub spares : m.some_end ≡ 0 → m.filled_end ≤ v
 
 abbrev pub IsAtNone : List ProgramHeader → Marks → ℕ → Type 0
 IsAtNone hs m v = DataEndsAt hs m v ⊎ (m.empty_start ≡ Some v)

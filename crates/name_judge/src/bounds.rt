@@ -147,14 +147,18 @@ fn begins_at(image: &ForeignImage<'_>, start: u64, last: Option<u64>, value: u64
     is_on_pages(image.segments(), start, value)
 }
 
-/// Whether an address is behind all data that aren't empty, and behind all sections where there are no such data.
+/// Whether an address is behind all data that aren't empty, and behind all sections and what the linker filled where there are no such
+/// data.
 fn is_behind_data(marks: &Marks, value: u64) -> bool
     ensures { IsTrue result ↔ IsBehindData marks.now value }
 {
     if value < marks.some_end {
         return false;
     }
-    marks.some_end != 0 || marks.image_end <= value
+    if marks.some_end != 0 {
+        return true;
+    }
+    marks.image_end <= value && marks.filled_end <= value as u128
 }
 
 /// Whether an address is at the end of data, or where an empty section of zeros is.

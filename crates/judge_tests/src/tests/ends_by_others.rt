@@ -4,6 +4,7 @@ use crate::tests::images::HEADERS;
 use crate::tests::linker_names::{Layout, judged_in, lines};
 use crate::tests::sample_objects::Part;
 use elf_model::{ProgramHeader, SHF_ALLOC, SHF_EXECINSTR, SHF_WRITE, SHT_NOBITS, SHT_PROGBITS};
+use judge_model::StretchLine;
 use std::alloc::Global;
 use std::test::Fail;
 
@@ -384,5 +385,22 @@ fn ends_beyond_theirs_are_not(rt: HostRuntime) -> Result<(), Fail> {
         all = judged(rt.alloc(), row)? == Some(false) && all;
     }
     assert!(rt; all);
+    Ok(())
+}
+
+/// What the linker filled behind the code.
+const FILLED: StretchLine = StretchLine {
+    address: 0x20_1178,
+    size: 8,
+};
+
+/// Where there are no data and no zeros, programs that clear from `__bss_start` on spare what the linker filled.
+#[test]
+fn zeros_that_are_none_spare_what_is_filled(rt: HostRuntime) -> Result<(), Fail> {
+    let before = lines(rt.alloc(), &[("__bss_start", 0x20_1178)])?;
+    let behind = lines(rt.alloc(), &[("__bss_start", 0x20_1180)])?;
+    let wrong = judged_in(rt.alloc(), &CODE_BY_LLD, &before, &[FILLED])?;
+    let right = judged_in(rt.alloc(), &CODE_BY_LLD, &behind, &[FILLED])?;
+    assert_eq!(rt; (wrong, right), (Some(false), Some(true)));
     Ok(())
 }
