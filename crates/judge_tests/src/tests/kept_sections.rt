@@ -1,8 +1,11 @@
 //! Sections that a link has: without --gc-sections all but those with SHF_EXCLUDE, with it at least those that stay (ld(1),
 //! --gc-sections; System V gABI 4, "Section Groups", SHF_LINK_ORDER).
+ghost use Rattle.check_load.specs.Numbered.{AreNumbered};
+
 use crate::tests::sample_objects::{Named, Part, file, loaded, object, put};
 use check_link::Names;
-use command::read_words;
+use check_load::{Loaded, NameTable, NamedObjects};
+use command::{Plan, read_words};
 use elf_model::{
     DropLine, SHF_ALLOC, SHF_EXECINSTR, SHF_LINK_ORDER, SHF_WRITE, SHT_FINI_ARRAY, SHT_GROUP,
     SHT_INIT_ARRAY, SHT_NOBITS, SHT_NOTE, SHT_PREINIT_ARRAY, SHT_PROGBITS, SHT_RELA,
@@ -31,16 +34,55 @@ static PARTS: [Part; 4] = [
     Part(".right", SHT_PROGBITS, SHF_ALLOC + EXCLUDE, 1, 8),
 ];
 
-/// The lines of sections of the first object that are left out.
-fn lines(alloc: Global, sections: &[u64]) -> Result<Vec<DropLine>, AllocError> {
-    let mut lines = Vec::new(alloc);
-    for section in sections {
-        lines.push(DropLine {
-            object: 0,
-            section: *section,
-        })?;
-    }
-    Ok(lines)
+/// The lines of sections of the first object that are left out, by their numbers.
+const S1: DropLine = DropLine {
+    object: 0,
+    section: 1,
+};
+
+const S2: DropLine = DropLine {
+    object: 0,
+    section: 2,
+};
+
+const S3: DropLine = DropLine {
+    object: 0,
+    section: 3,
+};
+
+const S4: DropLine = DropLine {
+    object: 0,
+    section: 4,
+};
+
+const S5: DropLine = DropLine {
+    object: 0,
+    section: 5,
+};
+
+const S6: DropLine = DropLine {
+    object: 0,
+    section: 6,
+};
+
+const S7: DropLine = DropLine {
+    object: 0,
+    section: 7,
+};
+
+/// Whether the sections of objects are right by a plan, where some are left out.
+fn are_kept<'a>(
+    alloc: Global,
+    objects: &[Loaded<'a>],
+    table: NameTable<'a>,
+    plan: &Plan<'_>,
+    collects: bool,
+    drops: &Drops<'_>,
+) -> Result<bool, AllocError>
+    requires { AreNumbered table objects.now }
+{
+    let names = Names::new(alloc, objects, table)?;
+    are_sections_kept(alloc, &names, plan, collects, drops)
 }
 
 /// Whether the sections of an object are right by a line of words, where some are left out.
@@ -49,7 +91,7 @@ fn is_right_by(
     bytes: &[u8],
     line: &str,
     collects: bool,
-    out: &[u64],
+    drops: &Drops<'_>,
 ) -> Result<bool, Fail> {
     let files = file(alloc, Vec::from_slice(alloc, bytes)?)?;
     let mut words = Vec::new(alloc);
@@ -57,38 +99,39 @@ fn is_right_by(
         words.push(String::from_str(alloc, word)?)?;
     }
     let plan = read_words(alloc, &words)?;
-    let named = loaded(alloc, &words, &files)?;
-    let names = Names::new(alloc, &named.objects, named.names)?;
-    let lines = lines(alloc, out)?;
-    Ok(are_sections_kept(alloc, &names, &plan, collects, &Drops::new(&lines))?)
+    let NamedObjects { objects, names } = loaded(alloc, &words, &files)?;
+    Ok(are_kept(alloc, &objects, names, &plan, collects, drops)?)
 }
 
 /// Whether the right sections of the object are left out.
-fn is_right(alloc: Global, out: &[u64]) -> Result<bool, Fail> {
+fn is_right(alloc: Global, drops: &Drops<'_>) -> Result<bool, Fail> {
     let bytes = object(alloc, &PARTS, &[START])?;
-    is_right_by(alloc, &bytes, "a.o", false, out)
+    is_right_by(alloc, &bytes, "a.o", false, drops)
 }
 
 #[test]
 fn both_sections_that_no_image_has_are_left_out(rt: HostRuntime) -> Result<(), Fail> {
-    assert!(rt; is_right(rt.alloc(), &[3, 4])?);
+    assert!(rt; is_right(rt.alloc(), &Drops::new(&[S3, S4]))?);
     Ok(())
 }
 
 #[test]
 fn sections_that_no_image_has_may_not_be_there(rt: HostRuntime) -> Result<(), Fail> {
-    for out in [[].as_slice(), &[3], &[4]] {
-        assert!(rt; !is_right(rt.alloc(), out)?);
-        let bytes = object(rt.alloc(), &PARTS, &[START])?;
-        assert!(rt; !is_right_by(rt.alloc(), &bytes, "a.o", true, out)?);
-    }
+    let alloc = rt.alloc();
+    assert!(rt; !is_right(alloc, &Drops::new(&[]))?);
+    assert!(rt; !is_right(alloc, &Drops::new(&[S3]))?);
+    assert!(rt; !is_right(alloc, &Drops::new(&[S4]))?);
+    let bytes = object(alloc, &PARTS, &[START])?;
+    assert!(rt; !is_right_by(alloc, &bytes, "a.o", true, &Drops::new(&[]))?);
+    assert!(rt; !is_right_by(alloc, &bytes, "a.o", true, &Drops::new(&[S3]))?);
+    assert!(rt; !is_right_by(alloc, &bytes, "a.o", true, &Drops::new(&[S4]))?);
     Ok(())
 }
 
 #[test]
 fn no_other_section_may_be_left_out(rt: HostRuntime) -> Result<(), Fail> {
-    assert!(rt; !is_right(rt.alloc(), &[1, 3, 4])?);
-    assert!(rt; !is_right(rt.alloc(), &[2, 3, 4])?);
+    assert!(rt; !is_right(rt.alloc(), &Drops::new(&[S1, S3, S4]))?);
+    assert!(rt; !is_right(rt.alloc(), &Drops::new(&[S2, S3, S4]))?);
     Ok(())
 }
 
@@ -121,11 +164,27 @@ fn sections_stay_by_their_names_and_types(rt: HostRuntime) -> Result<(), Fail> {
         for (this, wanted) in [(*part, *stays), (kept, true)] {
             let parts = [PARTS[0], PARTS[1], this, this];
             let bytes = object(rt.alloc(), &parts, &[START])?;
-            for out in [[3].as_slice(), &[4], &[2, 3], &[3, 4]] {
-                let right = is_right_by(rt.alloc(), &bytes, "a.o", true, out)?;
-                assert!(rt; right != wanted, "{} {}", this.0, out.len());
-            }
-            assert!(rt; is_right_by(rt.alloc(), &bytes, "a.o", true, &[2])?);
+            assert!(rt;
+                is_right_by(rt.alloc(), &bytes, "a.o", true, &Drops::new(&[S3]))? != wanted,
+                "{}",
+                this.0
+            );
+            assert!(rt;
+                is_right_by(rt.alloc(), &bytes, "a.o", true, &Drops::new(&[S4]))? != wanted,
+                "{}",
+                this.0
+            );
+            assert!(rt;
+                is_right_by(rt.alloc(), &bytes, "a.o", true, &Drops::new(&[S2, S3]))? != wanted,
+                "{}",
+                this.0
+            );
+            assert!(rt;
+                is_right_by(rt.alloc(), &bytes, "a.o", true, &Drops::new(&[S3, S4]))? != wanted,
+                "{}",
+                this.0
+            );
+            assert!(rt; is_right_by(rt.alloc(), &bytes, "a.o", true, &Drops::new(&[S2]))?);
         }
     }
     Ok(())
@@ -141,13 +200,13 @@ fn definitions_of_root_names_stay(rt: HostRuntime) -> Result<(), Fail> {
     let symbols = [START, Named("f", 0x12, 2, 0), Named("g", 0x12, 3, 0)];
     let bytes = object(rt.alloc(), &parts, &symbols)?;
     let alloc = rt.alloc();
-    assert!(rt; is_right_by(alloc, &bytes, "a.o", true, &[2, 3])?);
-    assert!(rt; !is_right_by(alloc, &bytes, "a.o", true, &[1])?);
-    assert!(rt; is_right_by(alloc, &bytes, "a.o -e f", true, &[1, 3])?);
-    assert!(rt; !is_right_by(alloc, &bytes, "a.o -e f", true, &[1, 2])?);
-    assert!(rt; !is_right_by(alloc, &bytes, "a.o -u f", true, &[2])?);
-    assert!(rt; !is_right_by(alloc, &bytes, "a.o -u f -u g", true, &[3])?);
-    assert!(rt; is_right_by(alloc, &bytes, "a.o -u f -u none", true, &[3])?);
+    assert!(rt; is_right_by(alloc, &bytes, "a.o", true, &Drops::new(&[S2, S3]))?);
+    assert!(rt; !is_right_by(alloc, &bytes, "a.o", true, &Drops::new(&[S1]))?);
+    assert!(rt; is_right_by(alloc, &bytes, "a.o -e f", true, &Drops::new(&[S1, S3]))?);
+    assert!(rt; !is_right_by(alloc, &bytes, "a.o -e f", true, &Drops::new(&[S1, S2]))?);
+    assert!(rt; !is_right_by(alloc, &bytes, "a.o -u f", true, &Drops::new(&[S2]))?);
+    assert!(rt; !is_right_by(alloc, &bytes, "a.o -u f -u g", true, &Drops::new(&[S3]))?);
+    assert!(rt; is_right_by(alloc, &bytes, "a.o -u f -u none", true, &Drops::new(&[S3]))?);
     Ok(())
 }
 
@@ -180,11 +239,11 @@ fn linked_sections_stay_with_theirs(rt: HostRuntime) -> Result<(), Fail> {
         let header = header_of(&bytes, section)?;
         put(&mut bytes, header.saturating_add(40), to, 4);
     }
-    assert!(rt; is_right_by(alloc, &bytes, "a.o", true, &[])?);
-    assert!(rt; is_right_by(alloc, &bytes, "a.o", true, &[2, 3])?);
-    assert!(rt; !is_right_by(alloc, &bytes, "a.o", true, &[2])?);
-    assert!(rt; !is_right_by(alloc, &bytes, "a.o", true, &[3])?);
-    assert!(rt; !is_right_by(alloc, &bytes, "a.o", true, &[2, 3, 4])?);
+    assert!(rt; is_right_by(alloc, &bytes, "a.o", true, &Drops::new(&[]))?);
+    assert!(rt; is_right_by(alloc, &bytes, "a.o", true, &Drops::new(&[S2, S3]))?);
+    assert!(rt; !is_right_by(alloc, &bytes, "a.o", true, &Drops::new(&[S2]))?);
+    assert!(rt; !is_right_by(alloc, &bytes, "a.o", true, &Drops::new(&[S3]))?);
+    assert!(rt; !is_right_by(alloc, &bytes, "a.o", true, &Drops::new(&[S2, S3, S4]))?);
     Ok(())
 }
 
@@ -215,14 +274,30 @@ fn groups_stay_or_go_as_wholes(rt: HostRuntime) -> Result<(), Fail> {
             put(&mut bytes, at, *member, 4);
         }
     }
-    assert!(rt; is_right_by(alloc, &bytes, "a.o", true, &[7])?);
-    assert!(rt; is_right_by(alloc, &bytes, "a.o", true, &[2, 3, 4, 7])?);
-    assert!(rt; is_right_by(alloc, &bytes, "a.o", true, &[6, 7])?);
-    assert!(rt; is_right_by(alloc, &bytes, "a.o", true, &[2, 3, 4, 6, 7])?);
-    assert!(rt; !is_right_by(alloc, &bytes, "a.o", true, &[2, 7])?);
-    assert!(rt; !is_right_by(alloc, &bytes, "a.o", true, &[2, 3, 7])?);
-    assert!(rt; !is_right_by(alloc, &bytes, "a.o", true, &[4, 7])?);
-    assert!(rt; !is_right_by(alloc, &bytes, "a.o -u f", true, &[2, 3, 4, 7])?);
+    assert!(rt; is_right_by(alloc, &bytes, "a.o", true, &Drops::new(&[S7]))?);
+    assert!(rt; is_right_by(alloc, &bytes, "a.o", true, &Drops::new(&[S2, S3, S4, S7]))?);
+    assert!(rt; is_right_by(alloc, &bytes, "a.o", true, &Drops::new(&[S6, S7]))?);
+    assert!(rt;
+        is_right_by(
+            alloc,
+            &bytes,
+            "a.o",
+            true,
+            &Drops::new(&[S2, S3, S4, S6, S7])
+        )?
+    );
+    assert!(rt; !is_right_by(alloc, &bytes, "a.o", true, &Drops::new(&[S2, S7]))?);
+    assert!(rt; !is_right_by(alloc, &bytes, "a.o", true, &Drops::new(&[S2, S3, S7]))?);
+    assert!(rt; !is_right_by(alloc, &bytes, "a.o", true, &Drops::new(&[S4, S7]))?);
+    assert!(rt;
+        !is_right_by(
+            alloc,
+            &bytes,
+            "a.o -u f",
+            true,
+            &Drops::new(&[S2, S3, S4, S7])
+        )?
+    );
     Ok(())
 }
 
@@ -253,10 +328,10 @@ fn sections_stay_whose_bounds_are_asked_for(rt: HostRuntime) -> Result<(), Fail>
         put(&mut bytes, entry, 2, 4);
         put(&mut bytes, entry.saturating_add(4), symbol, 4);
     }
-    assert!(rt; is_right_by(alloc, &bytes, "a.o", true, &[])?);
-    assert!(rt; is_right_by(alloc, &bytes, "a.o", true, &[3, 5])?);
-    assert!(rt; !is_right_by(alloc, &bytes, "a.o", true, &[3])?);
-    assert!(rt; !is_right_by(alloc, &bytes, "a.o", true, &[2, 3, 5])?);
-    assert!(rt; !is_right_by(alloc, &bytes, "a.o", true, &[4, 5])?);
+    assert!(rt; is_right_by(alloc, &bytes, "a.o", true, &Drops::new(&[]))?);
+    assert!(rt; is_right_by(alloc, &bytes, "a.o", true, &Drops::new(&[S3, S5]))?);
+    assert!(rt; !is_right_by(alloc, &bytes, "a.o", true, &Drops::new(&[S3]))?);
+    assert!(rt; !is_right_by(alloc, &bytes, "a.o", true, &Drops::new(&[S2, S3, S5]))?);
+    assert!(rt; !is_right_by(alloc, &bytes, "a.o", true, &Drops::new(&[S4, S5]))?);
     Ok(())
 }
