@@ -5,6 +5,7 @@ or a map that is made to hurt. No linker is needed.
     tools/judge/test.py
 """
 
+import importlib.machinery
 import os
 import struct
 import subprocess
@@ -92,6 +93,17 @@ class StandIn(unittest.TestCase):
             made = self.run_in(folder, ["-o", "x", "a.o"], "no F5", "1")
             self.assertEqual((made.returncode, made.stderr), (1, "no F5: x\n"))
             self.assertTrue((Path(folder) / "x").is_file())
+
+    def test_a_place_is_told_behind_the_image(self):
+        with tempfile.TemporaryDirectory() as folder:
+            made = self.run_in(folder, ["-o", "x", "a.o"], "no F7\n  object 0, section 1: bytes", "1")
+            self.assertEqual((made.returncode, made.stderr), (1, "no F7: x\n  object 0, section 1: bytes\n"))
+
+    def test_objects_of_places_are_told_by_their_paths(self):
+        stand_in = importlib.machinery.SourceFileLoader("stand_in", str(HERE / "bin" / "ld")).load_module("stand_in")
+        lines = ["object 0 0 0 a b.o", "object 1 2 78 b.a", "place 00000000002010e8 5 0 1 .text"]
+        self.assertEqual(stand_in.named("no F5\n  object 1, section 2, offset 3: a field", lines), "no F5\n  b.a(78), section 2, offset 3: a field")
+        self.assertEqual(stand_in.named("no F7\n  object 0, section 2: bytes", lines), "no F7\n  a b.o, section 2: bytes")
 
     def test_what_is_not_judged_is_linked(self):
         with tempfile.TemporaryDirectory() as folder:

@@ -9,15 +9,15 @@ use Rattle.judge_model.specs.Plans.{ForeignPlan}
 use Rattle.judge_model.specs.RightForeign.{IsShown}
 use Rattle.judge_model.specs.Words.{IsAsked, plan_said}
 use Rattle.judge_model.specs.declared.judgement.Requirement.TheVariants.{F5, F7}
-use Rattle.link_judge.specs.Judged.{IsReason, link_of}
+use Rattle.link_judge.specs.Judged.{IsReason, link_of, requirement_of}
 use Rattle.link_judge.specs.declared.judgement.Judgement.{Judgement}
-use Rattle.link_judge.specs.declared.judgement.Judgement.TheVariants.{No, NotJudged, Yes}
+use Rattle.link_judge.specs.declared.judgement.Judgement.TheVariants.{No, NoAt, NotJudged, Yes}
 use Rattle.link_judge.specs.declared.judgement.Reason.{Reason}
 use Rattle.link_judge.specs.declared.judgement.Reason.TheVariants as reason
 use Rattle.judge_main.specs.Opinions.{HasRightForeign, IsOpinion, SaysSome, opinion_of, opinion_status}
 use Rattle.judge_main.specs.declared.answer.Answer.{Answer}
 use Rattle.judge_main.specs.declared.opinion.Opinion.{Opinion}
-use Rattle.judge_main.specs.declared.opinion.Opinion.TheVariants.{OtherWords, Right, Unjudged, Wrong}
+use Rattle.judge_main.specs.declared.opinion.Opinion.TheVariants.{OtherWords, Right, Unjudged, Wrong, WrongAt}
 use Rattle.link_judge.specs.Judged.{IsJudgedBy}
 
 -- words ask for one plan
@@ -44,6 +44,7 @@ module _ (words : List (List ℕ)) (files : List File) (image : List ℕ) (certi
   pub said_of_judged : (j : Judgement) → IsJudgedBy words files image certificate j → IsOpinion words files image certificate (opinion_of j)
   said_of_judged Yes judged = judged
   said_of_judged (No f) judged = judged
+  said_of_judged (NoAt place) judged = judged
   said_of_judged (NotJudged r) judged = judged
 
   -- the status of a right link is said exactly of one
@@ -60,6 +61,13 @@ module _ (words : List (List ℕ)) (files : List File) (image : List ℕ) (certi
         (is.judges.fails
         ((subst (λ (q : ForeignPlan). IsShown (link_of files q image certificate)) (same_plan words p is.plan asked is.asked) shown).holds f)),
   )
+  right_where_shown (WrongAt place) is p asked = (
+    λ zero. absurd (omega (arith, zero)),
+    λ shown. absurd
+        (is.judges.requirement.fails
+        ((subst (λ (q : ForeignPlan). IsShown (link_of files q image certificate)) (same_plan words p is.plan asked is.asked) shown).holds
+        (requirement_of place))),
+  )
   right_where_shown (Unjudged r) is p asked = (
     λ zero. absurd (omega (arith, zero)),
     λ shown. absurd
@@ -72,6 +80,7 @@ module _ (words : List (List ℕ)) (files : List File) (image : List ℕ) (certi
   right_of_opinion : (o : Opinion) → IsOpinion words files image certificate o → opinion_status o ≡ 0 → HasRightForeign words
   right_of_opinion Right is zero = (files, (image, record { plan = is.plan; asked = is.asked; certificate = certificate; shown = is.judges }))
   right_of_opinion (Wrong f) is zero = absurd (omega (arith, zero))
+  right_of_opinion (WrongAt place) is zero = absurd (omega (arith, zero))
   right_of_opinion (Unjudged r) is zero = absurd (omega (arith, zero))
   right_of_opinion OtherWords is zero = absurd (omega (arith, zero))
 

@@ -1,9 +1,15 @@
 -- Faults that are told: those behind the certificate are faults of a run whose words name one.
-use Rattle.std.proofs.Common.{◌≡◌, ℕ, List, [], ◌∷◌, None, arith, length, refl, subst, sym}
+use Rattle.std.proofs.Common.{◌≡◌, ◌≤◌, ℕ, List, [], ◌∷◌, None, arith, inl, inr, length, refl, subst, sym}
 use Rattle.std.specs.Prelude.{◌≢◌, Option, String, string_bytes}
 use Rattle.std.specs.declared.alloc.Global.{Global}
 use Rattle.elf_model.specs.Inputs.Command.{after}
 use Rattle.elf_model.specs.Inputs.Files.{words_of}
+use Rattle.elf_model.specs.declared.faults.LinkError.{LinkError}
+use Rattle.elf_model.specs.declared.faults.LinkError.TheVariants as error
+use Rattle.ld_main.specs.Program.{error_status, failure_status}
+use Rattle.ld_main.specs.declared.failure.Failure.{Failure}
+use Rattle.ld_main.specs.declared.failure.Failure.TheVariants as failure
+use Rattle.judge_main.specs.Opinions.{IsSaid}
 use Rattle.judge_main.specs.Faults.{IsFailed, IsFaultOf, TellsFault, certificate_path, certificate_word, fault_status}
 use Rattle.judge_main.specs.declared.answer.Answer.{Answer}
 use Rattle.judge_main.specs.declared.fault.Fault.{Fault}
@@ -46,3 +52,18 @@ pub unnamed_status : (words : List (List ℕ)) (f : Fault) → certificate_path 
 unnamed_status words NoCertificate none is = refl
 unnamed_status words (BadCertificate p line) none is = refl
 unnamed_status words (Failed f) none is = absurd (is.0 none)
+
+-- a failure to read has no status of what is said of a link
+few : (e : LinkError) → error_status e ≤ 4
+few error.Memory = omega arith
+few (error.Command f) = omega arith
+few error.FileMissing = omega arith
+few _ = omega arith
+
+few_statuses : (f : Failure) → failure_status f ≤ 4
+few_statuses (failure.Refused e s) = few e
+few_statuses _ = omega arith
+
+pub never_said : (f : Failure) → 3 ≤ failure_status f → IsSaid (failure_status f) → ⊥
+never_said f high (inl low) = omega (arith, high, low)
+never_said f high (inr five) = let low = few_statuses f in omega (arith, five, low)

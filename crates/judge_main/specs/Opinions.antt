@@ -10,11 +10,13 @@ use Rattle.judge_model.specs.Words.{IsAsked}
 use Rattle.link_judge.specs.Judged.{IsJudgedBy, requirement_number}
 use Rattle.link_judge.specs.declared.judgement.Judgement.{Judgement}
 use Rattle.link_judge.specs.declared.judgement.Judgement.TheVariants as judgement
+use Rattle.link_judge.specs.declared.judgement.Place.{Place}
+use Rattle.link_judge.specs.declared.judgement.Place.TheVariants.{Field, Rest}
 use Rattle.link_judge.specs.declared.judgement.Reason.{Reason}
 use Rattle.link_judge.specs.declared.judgement.Reason.TheVariants as reason
 use Rattle.judge_main.specs.declared.answer.Answer.{Answer}
 use Rattle.judge_main.specs.declared.opinion.Opinion.{Opinion}
-use Rattle.judge_main.specs.declared.opinion.Opinion.TheVariants.{OtherWords, Right, Unjudged, Wrong}
+use Rattle.judge_main.specs.declared.opinion.Opinion.TheVariants.{OtherWords, Right, Unjudged, Wrong, WrongAt}
 
 -- there is a right link by words
 abbrev pub HasRightForeign : List (List ℕ) → Type 0
@@ -24,6 +26,7 @@ HasRightForeign words = (files : List File) × ((image : List ℕ) × IsRightFor
 abbrev pub opinion_of : Judgement → Opinion
 opinion_of judgement.Yes = Right
 opinion_of (judgement.No f) = Wrong f
+opinion_of (judgement.NoAt p) = WrongAt p
 opinion_of (judgement.NotJudged r) = Unjudged r
 
 -- an opinion is one of files, an image and a certificate by words: what the judgement of these says; or that the words are none that
@@ -31,13 +34,15 @@ opinion_of (judgement.NotJudged r) = Unjudged r
 abbrev pub IsOpinion : List (List ℕ) → List File → List ℕ → CertificateRecord → Opinion → Type 0
 IsOpinion words files image certificate Right = IsJudgedBy words files image certificate judgement.Yes
 IsOpinion words files image certificate (Wrong f) = IsJudgedBy words files image certificate (judgement.No f)
+IsOpinion words files image certificate (WrongAt p) = IsJudgedBy words files image certificate (judgement.NoAt p)
 IsOpinion words files image certificate (Unjudged r) = IsJudgedBy words files image certificate (judgement.NotJudged r)
 IsOpinion words files image certificate OtherWords = (p : ForeignPlan) → IsAsked words p → ⊥
 
--- the exit statuses, and the lines
+-- the exit statuses
 abbrev pub opinion_status : Opinion → ℕ
 opinion_status Right = 0
 opinion_status (Wrong f) = 1
+opinion_status (WrongAt p) = 1
 opinion_status OtherWords = 5
 opinion_status (Unjudged r) = 5
 
@@ -53,9 +58,22 @@ subject reason.Fields = codes "fields that overlap or leave their section"
 subject reason.Code = codes "code for thread-local storage that the linker may have rewritten"
 subject reason.Frames = codes "a table of frames that the linker made"
 
+-- where a requirement fails, and which
+abbrev pub place_text : Place → List ℕ
+place_text (Field w) =
+    codes "no F5\n  object "
+    ++ (decimal w.object
+    ++ (codes ", section "
+    ++ (decimal w.section
+    ++ (codes ", offset " ++ (decimal w.offset ++ (codes ": the field of a relocation of type " ++ (decimal w.kind ++ 10 ∷ [])))))))
+place_text (Rest w) =
+    codes "no F7\n  object "
+    ++ (decimal w.object ++ (codes ", section " ++ (decimal w.section ++ codes ": bytes beside the fields of relocations\n")))
+
 abbrev pub opinion_text : Opinion → List ℕ
 opinion_text Right = codes "yes\n"
 opinion_text (Wrong f) = codes "no F" ++ decimal (requirement_number f) ++ 10 ∷ []
+opinion_text (WrongAt p) = place_text p
 opinion_text OtherWords = codes "not judged: words that aren't known\n"
 opinion_text (Unjudged r) = codes "not judged: " ++ subject r ++ 10 ∷ []
 

@@ -4,7 +4,7 @@ ghost use Rattle.std.specs.Io.KnownBytes.{Appends};
 ghost use Rattle.judge_main.specs.Opinions.{opinion_status, opinion_text, subject};
 
 use judge_model::Requirement;
-use link_judge::{Judgement, Reason};
+use link_judge::{Judgement, Place, Reason};
 use std::io;
 use std::io::Write;
 
@@ -15,6 +15,8 @@ pub enum Opinion {
     Right,
     /// It is none by the certificate: the first requirement that fails.
     Wrong(Requirement),
+    /// It is none by the certificate: the first place where the first requirement that fails does.
+    WrongAt(Place),
     /// The words are none that are judged.
     OtherWords,
     /// The link isn't judged.
@@ -30,6 +32,7 @@ impl From<Judgement> for Opinion {
         match judgement {
             Judgement::Yes => Opinion::Right,
             Judgement::No(requirement) => Opinion::Wrong(requirement),
+            Judgement::NoAt(place) => Opinion::WrongAt(place),
             Judgement::NotJudged(reason) => Opinion::Unjudged(reason),
         }
     }
@@ -60,12 +63,13 @@ impl Opinion {
     {
         match self {
             Opinion::Right => 0,
-            Opinion::Wrong(_) => 1,
+            Opinion::Wrong(_) | Opinion::WrongAt(_) => 1,
             Opinion::OtherWords | Opinion::Unjudged(_) => 5,
         }
     }
 
-    /// Prints the line of what is said.
+    /// Prints the lines of what is said: of a place the requirement, and then where it is, by the numbers that objects have in the
+    /// certificate and sections in their object.
     pub fn print<W: Write>(self, out: &mut W) -> io::Result<()>
         ensures { OnOk result (Appends (W.contents out.old) (W.contents out.new)
             (opinion_text self)) }
@@ -73,6 +77,16 @@ impl Opinion {
         match self {
             Opinion::Right => writeln!(out, "yes"),
             Opinion::Wrong(requirement) => writeln!(out, "no F{}", requirement as u8),
+            Opinion::WrongAt(Place::Field(w)) => writeln!(
+                out,
+                "no F5\n  object {}, section {}, offset {}: the field of a relocation of type {}",
+                w.object, w.section, w.offset, w.kind
+            ),
+            Opinion::WrongAt(Place::Rest(w)) => writeln!(
+                out,
+                "no F7\n  object {}, section {}: bytes beside the fields of relocations",
+                w.object, w.section
+            ),
             Opinion::OtherWords => writeln!(out, "not judged: words that aren't known"),
             Opinion::Unjudged(reason) => writeln!(out, "not judged: {}", subject(reason)),
         }

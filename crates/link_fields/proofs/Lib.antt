@@ -11,3 +11,4 @@ pub mod Rising
 pub mod Rows
 pub mod SlotSteps
 pub mod WholePieces
+pub mod WrongPlaces

@@ -1,11 +1,11 @@
 -- Claims on all and on some of a list.
 use Rattle.std.proofs.Common.{◌≡◌, ℕ, ◌+◌, ◌<◌, Bool, true, List, [], ◌∷◌, ◌++◌, length, get_or, ap, subst, sym, ◌∙◌}
-use Rattle.std.specs.Prelude.{All, Any, filter}
-use Rattle.std.proofs.lemmas.List.Elements.{All-append, All-cons, All-contains, All-head, All-nil, All-tail, All-weaker}
+use Rattle.std.specs.Prelude.{All, Any, Contains, filter}
+use Rattle.std.proofs.lemmas.List.Elements.{All-append, All-cons, All-contains, All-head, All-nil, All-tail, All-weaker, Contains-append_left, Contains-append_right}
 use Rattle.elf_model.proofs.Finding.{Any-from_contains}
 use Rattle.elf_model.proofs.FlatRelocations.{left_of_objects, object_more}
 use Rattle.elf_model.proofs.Rests.{Left}
-use Rattle.elf_model.proofs.Listed.{All-from_contains, All-parts, Contains-filter, Contains-from_filter}
+use Rattle.elf_model.proofs.Listed.{All-from_contains, All-parts, Contains-filter, Contains-from_filter, Contains-here, Contains-there}
 use Rattle.check_load.specs.Views.{loaded_view}
 use Rattle.check_load.specs.declared.loaded.Loaded.{Loaded}
 use Rattle.elf_model.specs.Link.Relocation.{relocations_from}
@@ -65,6 +65,26 @@ module _ {X : Type 0} (P : X → Type 0) (Q : Type 0) (xs : List X) where
 
   pub part_stop : (a rest : List X) → xs ≡ a ++ rest → (All P a → ⊥) → Left Q (All P xs) → Q → ⊥
   part_stop a rest parts never q h = never (All-parts P a rest (subst (All P) parts (q.0 h))).0
+
+-- Each element of a list is one of another's, of which it is what is left.
+abbrev pub Within : {X : Type 0} → List X → List X → Type 0
+Within {X} ys xs = (x : X) → Contains ys x → Contains xs x
+
+pub within_same : {X : Type 0} (xs ys : List X) → ys ≡ xs → Within ys xs
+within_same {X} xs ys e x there = subst (λ (zs : List X). Contains zs x) e there
+
+module _ {X : Type 0} (whole ys : List X) (inside : Within ys whole) where
+  pub within_head : (x : X) (rest : List X) → ys ≡ x ∷ rest → Contains whole x
+  within_head x rest parts = inside x (subst (λ (zs : List X). Contains zs x) (sym parts) (Contains-here rest x))
+
+  pub within_tail : (x : X) (rest : List X) → ys ≡ x ∷ rest → Within rest whole
+  within_tail x rest parts y there = inside y (subst (λ (zs : List X). Contains zs y) (sym parts) (Contains-there x rest y there))
+
+  pub within_left : (a rest : List X) → ys ≡ a ++ rest → Within a whole
+  within_left a rest parts y there = inside y (subst (λ (zs : List X). Contains zs y) (sym parts) (Contains-append_left a rest y there))
+
+  pub within_right : (a rest : List X) → ys ≡ a ++ rest → Within rest whole
+  within_right a rest parts y there = inside y (subst (λ (zs : List X). Contains zs y) (sym parts) (Contains-append_right a rest y there))
 
 -- the relocations of the objects from one on are its own and those of the objects behind it
 pub object_read :

@@ -4,3 +4,4 @@ pub mod MergedLines
 pub mod Parts
 pub mod Rests
 pub mod Slots
+pub mod Wrong

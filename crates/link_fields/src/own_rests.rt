@@ -1,5 +1,5 @@
-//! Whether sections have the input's bytes beside the fields of their relocations.
-ghost use Rattle.std.specs.Prelude.{◌≡◌, ◌↔◌, ℕ, All, IfOk, IsTrue, List};
+//! Which sections haven't the input's bytes beside the fields of their relocations.
+ghost use Rattle.std.specs.Prelude.{◌≡◌, ◌↔◌, ℕ, All, IfOk, IfSome, IsTrue, List, None};
 ghost use Rattle.std.specs.List.Sorted.{IsNonDecreasingBy};
 ghost use Rattle.check_link.specs.Views.{placed_view};
 ghost use Rattle.elf_model.specs.Link.Loading.{LoadedObject};
@@ -10,10 +10,12 @@ ghost use Rattle.memory_judge.specs.Rests.{IsBeside};
 ghost use Rattle.link_fields.specs.Fields.{HasFields};
 ghost use Rattle.link_fields.specs.Parts.{parts_of};
 ghost use Rattle.link_fields.specs.Rests.{HoldsRestIn, IsOutside, LiesWhole, kept_in};
+ghost use Rattle.link_fields.specs.Wrong.{IsDenied, IsWrongRest, rest_named};
 
 use crate::drops::Drops;
 use crate::object_fields::{ObjectFields, fields_of_object, spans_of, turned_to};
 use crate::parts::LinkParts;
+use crate::wrong_places::{WrongRest, rest_named};
 use check_link::{Placed, load_size};
 use memory_judge::{FieldSpan, holds_rest};
 use std::alloc::{AllocError, Global};
@@ -58,44 +60,49 @@ fn holds_own_rest(
     Ok(holds_rest(parts.image, placed.at, size, piece.bytes, &spans))
 }
 
-/// Whether memory holds the bytes of placed sections and common blocks beside their fields. It goes once over the relocations of each
-/// object where the sections of an object stand together.
-fn hold_rests(
+/// The first of placed sections and common blocks of which memory doesn't hold the bytes beside their fields. It goes once over the
+/// relocations of each object where the sections of an object stand together.
+fn wrong_among(
     alloc: Global,
     parts: &LinkParts<'_, '_, '_>,
     drops: &Drops<'_>,
     placed: &[Placed<'_>],
-) -> Result<bool, AllocError>
+) -> Result<Option<WrongRest>, AllocError>
     requires { All (λ q. LiesWhole parts.now.image (placed_view q)) placed.now }
-    ensures { IfOk result (λ b. IsTrue b
-        ↔ All (λ q. HoldsRestIn parts.now drops.now (placed_view q)) placed.now) }
+    ensures right { IfOk result (λ r. r ≡ None
+        → All (λ q. HoldsRestIn parts.now drops.now (placed_view q)) placed.now) }
+    ensures wrong { IfOk result (λ r. IfSome r (IsDenied (λ q. HoldsRestIn parts.now drops.now
+        (placed_view q)) (λ q. rest_named (placed_view q)) placed.now)) }
 {
     let objects = parts.names.objects();
     let mut fields = fields_of_object(alloc, objects, 0)?;
     for q in placed {
         fields = turned_to(alloc, objects, fields, q.piece.object)?;
         if !holds_own_rest(alloc, parts, drops, &fields, q)? {
-            return Ok(false);
+            return Ok(Some(rest_named(q)));
         }
     }
-    Ok(true)
+    Ok(None)
 }
 
-/// Whether memory holds the bytes of a link's sections beside their fields, given its parts and the lines of the sections that are
-/// left out. Each section that takes up memory lies whole in a segment.
+/// The first section or common block of a link of which memory doesn't hold the bytes beside its fields; None where there is none.
+/// Given are the link's parts and the lines of the sections that are left out. Each section that takes up memory lies whole in a
+/// segment.
 ///
 /// # Errors
 ///
 /// Only where memory is refused.
-pub fn are_rests_right(
+pub fn wrong_rest(
     alloc: Global,
     parts: &LinkParts<'_, '_, '_>,
     drops: &Drops<'_>,
-) -> Result<bool, AllocError>
+) -> Result<Option<WrongRest>, AllocError>
     requires { All (LiesWhole parts.now.image) parts.now.placed }
-    ensures { (l : ForeignLink) → parts_of l ≡ parts.now → l.certificate.drops ≡ drops.now
-        → IfOk result (λ b. IsTrue b ↔ Holds requirement.F7 l) }
+    ensures right { (l : ForeignLink) → parts_of l ≡ parts.now → l.certificate.drops ≡ drops.now
+        → IfOk result (λ r. r ≡ None → Holds requirement.F7 l) }
+    ensures wrong { (l : ForeignLink) → parts_of l ≡ parts.now → l.certificate.drops ≡ drops.now
+        → IfOk result (λ r. IfSome r (IsWrongRest l)) }
 {
-    let right = hold_rests(alloc, parts, drops, parts.addresses.placed())?;
-    Ok(right)
+    let wrong = wrong_among(alloc, parts, drops, parts.addresses.placed())?;
+    Ok(wrong)
 }

@@ -1,5 +1,5 @@
-//! Whether the fields of relocations are right, object by object.
-ghost use Rattle.std.specs.Prelude.{◌≡◌, ◌↔◌, ◌%◌, ◌^◌, ◌&&◌, [], All, IsTrue, Some, is_some, unwrap_or};
+//! Which fields of relocations aren't right, object by object.
+ghost use Rattle.std.specs.Prelude.{◌≡◌, ◌↔◌, ◌%◌, ◌^◌, ◌&&◌, [], All, IfSome, IsTrue, None, Some, is_some, unwrap_or};
 ghost use Rattle.std.specs.List.{slice_get};
 ghost use Rattle.elf_model.specs.Inputs.ObjectFile as object_file;
 ghost use Rattle.elf_model.specs.Inputs.ObjectFile.{rela_symbol};
@@ -17,11 +17,13 @@ ghost use Rattle.judge_model.specs.Rewrites.{instruction_in};
 ghost use Rattle.judge_model.specs.RightForeign.{Holds};
 ghost use Rattle.judge_model.specs.declared.judgement.Requirement.TheVariants as requirement;
 ghost use Rattle.link_fields.specs.Parts.{AreTaken, IsFieldRightIn, IsFieldRightUnlessOut, IsMeant, IsPlaceRightIn, given, is_in_list, parts_of};
+ghost use Rattle.link_fields.specs.Wrong.{IsDenied, IsWrongField, field_named};
 ghost use Rattle.check_load.specs.declared.kept_relocations.KeptRelocation.{KeptRelocation};
 
 use crate::drops::Drops;
 use crate::meanings::{Meant, symbol_meant};
 use crate::parts::LinkParts;
+use crate::wrong_places::{WrongField, field_named};
 use check_link::SymbolOf;
 use check_load::{KeptRelocation, Loaded};
 use elf_model::{Rela, SHF_EXECINSTR};
@@ -265,19 +267,21 @@ fn is_right_unless_out<'a>(
     is_field_right(parts, taken, number, loaded, relocation, thread_pointer)
 }
 
-/// Whether the fields of the relocations of object `number` are right, but for those of sections that are left out.
-fn are_own_right<'a>(
+/// The first field of the relocations of object `number` that isn't right, but for those of sections that are left out.
+fn wrong_own<'a>(
     parts: &LinkParts<'_, '_, 'a>,
     taken: &Taken<'_>,
     drops: &Drops<'_>,
     number: u64,
     loaded: &Loaded<'a>,
     thread_pointer: u64,
-) -> bool
+) -> Option<WrongField>
     requires pointer { thread_pointer ≡ pointer_of parts.now.image % 2 ^ 64 }
     requires own { slice_get parts.now.objects number ≡ Some (loaded_view loaded.now) }
-    ensures { IsTrue result ↔ All (IsFieldRightUnlessOut parts.now taken.now drops.now)
+    ensures right { result ≡ None → All (IsFieldRightUnlessOut parts.now taken.now drops.now)
         (relocations_from number (loaded_view loaded.now)) }
+    ensures wrong { IfSome result (IsDenied (IsFieldRightUnlessOut parts.now taken.now drops.now)
+        field_named (relocations_from number (loaded_view loaded.now))) }
 {
     for relocation in loaded.relocations() {
         if !is_right_unless_out(
@@ -289,32 +293,44 @@ fn are_own_right<'a>(
             &relocation,
             thread_pointer,
         ) {
-            return false;
+            return Some(field_named(number, &relocation));
         }
     }
-    true
+    None
 }
 
-/// Whether the fields of all relocations are right, but for those of sections that are left out.
-fn are_all_right(parts: &LinkParts<'_, '_, '_>, taken: &Taken<'_>, drops: &Drops<'_>) -> bool
-    ensures { IsTrue result ↔ All (IsFieldRightUnlessOut parts.now taken.now drops.now)
+/// The first field of all relocations that isn't right, but for those of sections that are left out.
+fn wrong_among(
+    parts: &LinkParts<'_, '_, '_>,
+    taken: &Taken<'_>,
+    drops: &Drops<'_>,
+) -> Option<WrongField>
+    ensures right { result ≡ None → All (IsFieldRightUnlessOut parts.now taken.now drops.now)
         (relocations parts.now.objects) }
+    ensures wrong { IfSome result (IsDenied (IsFieldRightUnlessOut parts.now taken.now drops.now)
+        field_named (relocations parts.now.objects)) }
 {
     let objects = parts.names.objects();
     let pointer = thread_pointer(parts.image);
     for k in 0..objects.len() {
-        if !are_own_right(parts, taken, drops, k as u64, &objects[k], pointer) {
-            return false;
+        if let Some(field) = wrong_own(parts, taken, drops, k as u64, &objects[k], pointer) {
+            return Some(field);
         }
     }
-    true
+    None
 }
 
-/// Whether the field of each relocation of a link is right, given its parts, the lines of the sections that are left out, and
-/// where memory is taken: by headers, notes, sections and common blocks, and in the gaps of runs.
-pub fn are_fields_right(parts: &LinkParts<'_, '_, '_>, taken: &Taken<'_>, drops: &Drops<'_>) -> bool
-    ensures { (l : ForeignLink) → parts_of l ≡ parts.now → l.certificate.drops ≡ drops.now
-        → AreTaken l taken.now → IsTrue result ↔ Holds requirement.F5 l }
+/// The first field of a link's relocations that isn't right; None where all are. Given are the link's parts, the lines of the sections
+/// that are left out, and where memory is taken: by headers, notes, sections and common blocks, and in the gaps of runs.
+pub fn wrong_field(
+    parts: &LinkParts<'_, '_, '_>,
+    taken: &Taken<'_>,
+    drops: &Drops<'_>,
+) -> Option<WrongField>
+    ensures right { (l : ForeignLink) → parts_of l ≡ parts.now → l.certificate.drops ≡ drops.now
+        → AreTaken l taken.now → result ≡ None → Holds requirement.F5 l }
+    ensures wrong { (l : ForeignLink) → parts_of l ≡ parts.now → l.certificate.drops ≡ drops.now
+        → AreTaken l taken.now → IfSome result (IsWrongField l) }
 {
-    are_all_right(parts, taken, drops)
+    wrong_among(parts, taken, drops)
 }

@@ -129,7 +129,7 @@ fn all_slots(
 }
 
 /// The addresses of the slots that the fields of a link ask for, one for each field that has one, given what
-/// `are_fields_right` is given.
+/// `wrong_field` is given.
 ///
 /// # Errors
 ///

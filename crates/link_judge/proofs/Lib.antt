@@ -3,3 +3,4 @@ pub mod Negations
 pub mod Requirements
 pub mod SharedCode
 pub mod Starts
+pub mod WrongPlaces

@@ -1,18 +1,13 @@
--- Code for the thread-local storage of shared objects: among the relocations of all sections and of those in the image, and what is
--- said where there is some or none.
-use Rattle.std.proofs.Common.{◌≡◌, ◌⊎◌, ◌++◌, Bool, List, [], ◌∷◌, ap, cond, false, inl, inr, refl, subst, sym, true, ◌∙◌}
+-- Code for the thread-local storage of shared objects: among the relocations of all sections and of those in the image.
+use Rattle.std.proofs.Common.{◌≡◌, ◌++◌, Bool, List, [], ◌∷◌, ap, cond, false, refl, subst, sym, true, ◌∙◌}
 use Rattle.std.specs.Prelude.{◌&&◌, ◌||◌, filter}
 use Rattle.std.specs.List.{list_any}
-use Rattle.std.proofs.lemmas.Bool.{false≢true}
 use Rattle.std.proofs.lemmas.List.Folds.{list_any-append}
 use Rattle.elf_model.specs.Link.Loading.{LoadedObject}
 use Rattle.elf_model.specs.Link.Relocation.{relocations}
 use Rattle.elf_model.specs.declared.link_map.DropLine.{DropLine}
 use Rattle.judge_model.specs.Links.{ForeignLink, is_in_image_too, objects_of}
-use Rattle.judge_model.specs.RightForeign.{Holds}
-use Rattle.judge_model.specs.declared.judgement.Requirement.{Requirement}
-use Rattle.judge_model.specs.declared.judgement.Requirement.TheVariants.{F5, F7}
-use Rattle.link_judge.specs.Judged.{HasSharedThreadCode, IsCodePlain, has_shared_thread_code, is_shared_thread}
+use Rattle.link_judge.specs.Judged.{has_shared_thread_code, is_shared_thread}
 use Rattle.link_judge.specs.Rewritten.{is_shared_thread_in}
 
 -- one of those that pass a test passes another exactly where one of all passes both
@@ -56,21 +51,3 @@ shared_in_image l objects drops same dropped =
     subst (λ (os : List LoadedObject). list_any (is_shared_thread_in drops) (relocations os) ≡ has_shared_thread_code l) same
     (subst (λ (ds : List DropLine). list_any (is_shared_thread_in ds) (relocations (objects_of l)) ≡ has_shared_thread_code l) dropped
     (any_of_passing (is_in_image_too l) is_shared_thread (relocations (objects_of l))))
-
-module _ (l : ForeignLink) (f : Requirement) (which : (f ≡ F5) ⊎ (f ≡ F7)) where
-  pub plain_without : has_shared_thread_code l ≡ false → IsCodePlain f l
-  plain_without none = by which
-    where
-      never : HasSharedThreadCode l → ⊥
-      never has = false≢true (sym none ∙ has)
-
-      by : (f ≡ F5) ⊎ (f ≡ F7) → IsCodePlain f l
-      by (inl e) = subst (λ (g : Requirement). IsCodePlain g l) (sym e) never
-      by (inr e) = subst (λ (g : Requirement). IsCodePlain g l) (sym e) never
-
-  pub fields_or_rests : (Holds f l → ⊥) → (Holds F5 l → ⊥) ⊎ (Holds F7 l → ⊥)
-  fields_or_rests fails = by which
-    where
-      by : (f ≡ F5) ⊎ (f ≡ F7) → (Holds F5 l → ⊥) ⊎ (Holds F7 l → ⊥)
-      by (inl e) = inl (λ h. fails (subst (λ (g : Requirement). Holds g l) (sym e) h))
-      by (inr e) = inr (λ h. fails (subst (λ (g : Requirement). Holds g l) (sym e) h))

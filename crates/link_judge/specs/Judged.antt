@@ -15,8 +15,11 @@ use Rattle.judge_model.specs.Words.{IsAsked}
 use Rattle.judge_model.specs.declared.judgement.Requirement.{Requirement}
 use Rattle.judge_model.specs.declared.judgement.Requirement.TheVariants.{F1, F2, F3, F4, F5, F6, F7, F8, F9, F10, F11, F12, F13}
 use Rattle.link_judge.specs.Inputs.{AreArraysWhole, AreFieldsSound, AreNamesUnmixed, AreNotesJoined, AreObjectsSound, AreUnedited}
+use Rattle.link_fields.specs.Wrong.{IsWrongField, IsWrongRest}
 use Rattle.link_judge.specs.declared.judgement.Judgement.{Judgement}
-use Rattle.link_judge.specs.declared.judgement.Judgement.TheVariants.{No, NotJudged, Yes}
+use Rattle.link_judge.specs.declared.judgement.Judgement.TheVariants.{No, NoAt, NotJudged, Yes}
+use Rattle.link_judge.specs.declared.judgement.Place.{Place}
+use Rattle.link_judge.specs.declared.judgement.Place.TheVariants.{Field, Rest}
 use Rattle.link_judge.specs.declared.judgement.Reason.{Reason}
 use Rattle.link_judge.specs.declared.judgement.Reason.TheVariants as reason
 
@@ -75,6 +78,19 @@ pub record Fails (f : Requirement) (l : ForeignLink) : Type 0 where
   pub told : IsTold f l
   pub code : IsCodePlain f l
 
+-- Where a requirement fails: the one that a place is about, and what isn't right there.
+abbrev pub requirement_of : Place → Requirement
+requirement_of (Field w) = F5
+requirement_of (Rest w) = F7
+
+abbrev pub IsWrongAt : Place → ForeignLink → Type 0
+IsWrongAt (Field w) l = IsWrongField l w
+IsWrongAt (Rest w) l = IsWrongRest l w
+
+pub record FailsAt (p : Place) (l : ForeignLink) : Type 0 where
+  pub requirement : Fails (requirement_of p) l
+  pub wrong : IsWrongAt p l
+
 -- Why a link isn't judged: a part of IsJudged doesn't hold; or fields or bytes aren't right,
 -- which may be as the linker rewrote code that asks for thread-local storage.
 abbrev pub IsReason : Reason → ForeignLink → Type 0
@@ -93,6 +109,7 @@ IsReason reason.Code l = HasSharedThreadCode l × ((¬ Holds F5 l) ⊎ (¬ Holds
 abbrev pub Judges : Judgement → ForeignLink → Type 0
 Judges Yes l = IsShown l
 Judges (No f) l = Fails f l
+Judges (NoAt p) l = FailsAt p l
 Judges (NotJudged r) l = IsReason r l
 
 -- the link of files by a plan, which has an image, with a certificate

@@ -1,16 +1,19 @@
 //! F7: beside the fields of relocations the bytes of sections are those of the inputs.
-ghost use Rattle.std.specs.Prelude.{◌↔◌, IfOk, IsTrue};
+ghost use Rattle.std.specs.Prelude.{◌≡◌, IfOk, IfSome, None};
 ghost use Rattle.judge_model.specs.RightForeign.{Holds};
 ghost use Rattle.judge_model.specs.declared.judgement.Requirement.TheVariants as requirement;
+ghost use Rattle.link_fields.specs.Wrong.{IsWrongRest};
 
 use judge_stages::BoundClaim;
-use link_fields::are_rests_right;
+use link_fields::{WrongRest, wrong_rest};
 use std::alloc::{AllocError, Global};
 
-/// Whether the bytes beside fields are right of a link whose sections are placed right.
-pub fn holds(alloc: Global, bound: &BoundClaim<'_, '_, '_>) -> Result<bool, AllocError>
+/// The first section or common block whose bytes beside fields aren't right, of a link whose sections are placed right; None where
+/// there is none.
+pub fn wrong(alloc: Global, bound: &BoundClaim<'_, '_, '_>) -> Result<Option<WrongRest>, AllocError>
     requires placed { Holds requirement.F3 bound.now }
-    ensures { IfOk result (λ b. IsTrue b ↔ Holds requirement.F7 bound.now) }
+    ensures right { IfOk result (λ r. r ≡ None → Holds requirement.F7 bound.now) }
+    ensures wrong { IfOk result (λ r. IfSome r (IsWrongRest bound.now)) }
 {
-    are_rests_right(alloc, bound.parts(), bound.placed().drops())
+    wrong_rest(alloc, bound.parts(), bound.placed().drops())
 }

@@ -1,6 +1,7 @@
 //! What a judge answers: yes, or the first requirement that isn't met; or why a link isn't judged.
 
 use judge_model::Requirement;
+use link_fields::{WrongField, WrongRest};
 
 /// Why a link isn't judged.
 #[derive(Clone, Copy, Debug, PartialEq, Eq)]
@@ -27,6 +28,15 @@ pub enum Reason {
     Code,
 }
 
+/// What isn't right of a link, and where.
+#[derive(Clone, Copy, Debug, PartialEq, Eq)]
+pub enum Place {
+    /// F5: a field doesn't hold what its relocation asks for.
+    Field(WrongField),
+    /// F7: a section hasn't the input's bytes beside its fields.
+    Rest(WrongRest),
+}
+
 /// What a judge answers.
 #[derive(Clone, Copy, Debug, PartialEq, Eq)]
 pub enum Judgement {
@@ -34,6 +44,8 @@ pub enum Judgement {
     Yes,
     /// It is none by its certificate: the requirement that isn't met.
     No(Requirement),
+    /// It is none by its certificate: the first place where the requirement that isn't met fails.
+    NoAt(Place),
     /// It isn't judged.
     NotJudged(Reason),
 }

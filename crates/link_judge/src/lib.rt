@@ -20,5 +20,5 @@ mod judgement;
 mod rewrites;
 mod verdict;
 
-pub use judgement::{Judgement, Reason};
+pub use judgement::{Judgement, Place, Reason};
 pub use verdict::judge;

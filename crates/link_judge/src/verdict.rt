@@ -1,5 +1,5 @@
 //! The whole judgement, from the top: what isn't judged, and the requirements in their order, each judged where all before it hold.
-ghost use Rattle.std.specs.Prelude.{◌≡◌, ◌↔◌, ◌⊎◌, ℕ, IfOk, IsTrue, List, None};
+ghost use Rattle.std.specs.Prelude.{◌≡◌, ◌↔◌, ℕ, IfOk, IsTrue, List, None};
 ghost use Rattle.elf_model.specs.Inputs.Files.{files_of};
 ghost use Rattle.judge_model.specs.Certificates.{IsInOrder, certificate_of};
 ghost use Rattle.check_load.specs.Numbered.{AreNumbered};
@@ -12,9 +12,9 @@ ghost use Rattle.judge_model.specs.RightForeign.{HasNoOtherTable, Holds, IsJudge
 ghost use Rattle.judge_model.specs.declared.judgement.Requirement.TheVariants as which;
 ghost use Rattle.foreign_words.specs.Spoken.{IsSpokenBy, IsWhole};
 ghost use Rattle.link_judge.specs.Inputs.{AreInputsSound};
-ghost use Rattle.link_judge.specs.Judged.{HoldsBefore, IsCodePlain, IsJudgedBy, Judges, link_of};
+ghost use Rattle.link_judge.specs.Judged.{HoldsBefore, IsCodePlain, IsJudgedBy, IsWrongAt, Judges, link_of, requirement_of};
 
-use crate::judgement::{Judgement, Reason};
+use crate::judgement::{Judgement, Place, Reason};
 use crate::rewrites::has_shared_thread_code;
 use crate::{
     f02_kept, f03_placed, f04_names, f05_fields, f07_rests, f08_frames, f09_threads,
@@ -80,19 +80,18 @@ fn no(requirement: Requirement, claim: &Claim<'_>) -> Judgement
     Judgement::No(requirement)
 }
 
-/// The answer where fields, or the bytes beside them, aren't right: not judged where that may be as the linker rewrote code that asks
+/// The answer where a field, or the bytes beside fields, aren't right: not judged where that may be as the linker rewrote code that asks
 /// for thread-local storage.
-fn no_code(requirement: Requirement, placed: &PlacedClaim<'_, '_>) -> Judgement
+fn no_code(place: Place, placed: &PlacedClaim<'_, '_>) -> Judgement
     requires judged { IsJudged placed.now }
-    requires before { HoldsBefore requirement placed.now }
-    requires fails { ¬ Holds requirement placed.now }
-    requires code { (requirement ≡ which.F5) ⊎ (requirement ≡ which.F7) }
+    requires before { HoldsBefore (requirement_of place) placed.now }
+    requires wrong { IsWrongAt place placed.now }
     ensures { Judges result placed.now }
 {
     if has_shared_thread_code(placed.names().objects(), placed.drops()) {
         return Judgement::NotJudged(Reason::Code);
     }
-    no(requirement, placed.claim())
+    Judgement::NoAt(place)
 }
 
 /// Judges a link without a script.
@@ -264,8 +263,8 @@ fn judge_names(
     if !f04_names::holds(alloc, bound)? {
         return Ok(no(Requirement::F4, claim));
     }
-    if !f05_fields::holds(bound, taken) {
-        return Ok(no_code(Requirement::F5, bound.placed()));
+    if let Some(field) = f05_fields::wrong(bound, taken) {
+        return Ok(no_code(Place::Field(field), bound.placed()));
     }
     judge_rests(alloc, bound, taken, pairs, seed)
 }
@@ -285,9 +284,8 @@ fn judge_rests(
     requires before { HoldsBefore which.F7 bound.now }
     ensures { IfOk result (λ j. Judges j bound.now) }
 {
-    let claim = bound.placed().claim();
-    if !f07_rests::holds(alloc, bound)? {
-        return Ok(no_code(Requirement::F7, bound.placed()));
+    if let Some(rest) = f07_rests::wrong(alloc, bound)? {
+        return Ok(no_code(Place::Rest(rest), bound.placed()));
     }
     judge_frames(alloc, bound, taken, pairs, seed)
 }

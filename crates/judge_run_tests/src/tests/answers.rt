@@ -65,8 +65,16 @@ static ROWS: [(Change, &str, u8); 16] = [
         1,
     ),
     // A call that jumps one byte further; another instruction behind it.
-    (Change::Image(FIELD, &[4]), "no F5", 1),
-    (Change::Image(SECOND, &[0x33]), "no F7", 1),
+    (
+        Change::Image(FIELD, &[4]),
+        "no F5\n  object 0, section 1, offset 1: the field of a relocation of type 4",
+        1,
+    ),
+    (
+        Change::Image(SECOND, &[0x33]),
+        "no F7\n  object 1, section 1: bytes beside the fields of relocations",
+        1,
+    ),
     // A list of call frames that is in no area.
     (
         Change::Text("ldmap 2", "frames 2101480 5\nldmap 2"),
@@ -81,11 +89,11 @@ static ROWS: [(Change, &str, u8); 16] = [
     (Change::Image(ENTRY, &[0xf0]), "no F11", 1),
     (Change::Image(PHYSICAL, &[1]), "no F12", 1),
     (Change::Image(KIND, &[1]), "no F12", 1),
-    // Words for --gc-sections.
+    // Words for --gc-sections, where no section is left out.
     (
         Change::Words("--certificate=a.cert --gc-sections -o x a.o b.o"),
-        "not judged: --gc-sections",
-        5,
+        "yes",
+        0,
     ),
     // The line of a record of call frames in a section of code.
     (

@@ -10,6 +10,7 @@ use elf_model::{
 };
 use foreign_words::read_foreign_words;
 use judge_model::{Certificate, MergedLine, NameLine, Requirement, StretchLine};
+use link_fields::WrongField;
 use link_judge::{Judgement, Reason, judge};
 use std::alloc::{AllocError, Global};
 use std::test::Fail;
@@ -289,7 +290,12 @@ static WRONG_LISTS: [Row; 13] = [
     // The call of `shared`, which is none of the list's fields; a byte of the area that isn't in the list.
     Row {
         byte: Some((130, 0x0b)),
-        judged: Judgement::No(Requirement::F5),
+        judged: Judgement::NoAt(link_judge::Place::Field(WrongField {
+            object: 0,
+            section: 2,
+            offset: 2,
+            kind: 4,
+        })),
         ..RIGHT
     },
     Row {

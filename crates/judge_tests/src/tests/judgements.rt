@@ -8,7 +8,8 @@ use elf_model::{
 };
 use foreign_words::read_foreign_words;
 use judge_model::{Certificate, MergedLine, NameLine, Requirement, StretchLine};
-use link_judge::{Judgement, Reason, judge};
+use link_fields::WrongRest;
+use link_judge::{Judgement, Place, Reason, judge};
 use std::alloc::{AllocError, Global};
 use std::test::Fail;
 
@@ -164,12 +165,18 @@ static ROWS: [Row; 23] = [
     // A byte of code, and one of data.
     Row {
         byte: Some((0, 1)),
-        judged: Judgement::No(Requirement::F7),
+        judged: Judgement::NoAt(Place::Rest(WrongRest {
+            object: 0,
+            section: 1,
+        })),
         ..RIGHT
     },
     Row {
         byte: Some((19, 1)),
-        judged: Judgement::No(Requirement::F7),
+        judged: Judgement::NoAt(Place::Rest(WrongRest {
+            object: 1,
+            section: 2,
+        })),
         ..RIGHT
     },
     // A block of thread-local storage that no section has.

@@ -7,7 +7,8 @@ use elf_model::{
 };
 use foreign_words::read_foreign_words;
 use judge_model::{Certificate, MergedLine, NameLine, Requirement, StretchLine};
-use link_judge::{Judgement, Reason, judge};
+use link_fields::WrongField;
+use link_judge::{Judgement, Place, Reason, judge};
 use std::alloc::{AllocError, Global};
 use std::test::Fail;
 
@@ -127,9 +128,12 @@ const NO_MERGED: Row = Row {
     ..RIGHT
 };
 
-const NO_FIELD: Row = Row {
-    judged: Judgement::No(Requirement::F5),
-    ..RIGHT
+/// A field of the first object's code, of an R_X86_64_32.
+const FIELD: WrongField = WrongField {
+    object: 0,
+    section: 1,
+    offset: 4,
+    kind: 10,
 };
 
 const NO_ORDER: Row = Row {
@@ -215,15 +219,26 @@ static ROWS: [Row; 21] = [
     // A field of another string; of another constant; one whose string has no line.
     Row {
         field: Some((1, 0x20_0100)),
-        ..NO_FIELD
+        judged: Judgement::NoAt(Place::Field(FIELD)),
+        ..RIGHT
     },
     Row {
         field: Some((5, 0x20_00f0)),
-        ..NO_FIELD
+        judged: Judgement::NoAt(Place::Field(WrongField {
+            object: 1,
+            offset: 8,
+            ..FIELD
+        })),
+        ..RIGHT
     },
     Row {
         line: Some((5, None)),
-        ..NO_FIELD
+        judged: Judgement::NoAt(Place::Field(WrongField {
+            object: 1,
+            offset: 0,
+            ..FIELD
+        })),
+        ..RIGHT
     },
     // Fill of an area that isn't zero.
     Row {

@@ -10,7 +10,7 @@ use elf_model::{
     DropLine, R_X86_64_REX_GOTPCRELX, SHF_ALLOC, SHF_EXECINSTR, SHT_PROGBITS, SHT_RELA, Thing,
 };
 use foreign_image::ForeignImage;
-use link_fields::{Addresses, Drops, LinkParts, MergedLines, are_fields_right};
+use link_fields::{Addresses, Drops, LinkParts, MergedLines, wrong_field};
 use memory_judge::Taken;
 use std::alloc::{AllocError, Global};
 use std::test::Fail;
@@ -133,7 +133,7 @@ fn are_right<'a>(
                 rows: &[],
                 got: None,
             };
-            Ok(Some(are_fields_right(&parts, &taken, drops)))
+            Ok(Some(wrong_field(&parts, &taken, drops).is_none()))
         }
         None => Ok(None),
     }

@@ -7,7 +7,7 @@ use Rattle.check_link.specs.Views.{placed_view}
 use Rattle.check_link.specs.declared.things.Placed.{Placed}
 use Rattle.elf_model.proofs.Rests.{all_more}
 use Rattle.link_fields.specs.Rests.{HoldsRestIn}
-use Rattle.link_fields.proofs.own_rests.hold_rests.Goals as goal
+use Rattle.link_fields.proofs.own_rests.wrong_among.Goals as goal
 
 pub loop-q-preserved : goal.loop-q-preserved
 loop-q-preserved c = (

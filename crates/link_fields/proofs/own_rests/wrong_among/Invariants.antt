@@ -4,7 +4,7 @@ use Rattle.check_link.specs.Views.{placed_view}
 use Rattle.elf_model.proofs.Rests.{Left}
 use Rattle.link_fields.specs.Fields.{HasFields}
 use Rattle.link_fields.specs.Rests.{HoldsRestIn}
-use Rattle.link_fields.proofs.own_rests.hold_rests.Given as goal
+use Rattle.link_fields.proofs.own_rests.wrong_among.Given as goal
 
 abbrev pub invariant-loop-q : goal.invariant-loop-q
 invariant-loop-q l =
