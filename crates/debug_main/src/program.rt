@@ -8,13 +8,13 @@ ghost use Rattle.ld_main.specs.Tasks.{AreNamedBy};
 ghost use Rattle.debug_main.specs.Verdicts.{Prints, SaysSome, answer_status};
 ghost use Rattle.debug_main.specs.Words.{IsStripped, plain_words, stands_alone};
 
-use crate::checking::check_files;
-use crate::linking::link_files;
+use crate::checking::check_held;
+use crate::linking::link_held;
 use crate::verdict::DebugVerdict;
 use crate::words::{stands_alone, stripped};
 use debug_image::Wanted;
 use elf_model::LinkError;
-use ld_main::{Failure, OutputFiles, Task, given_words, name_seed, read_input};
+use ld_main::{Failure, OutputFiles, Task, given_words, read_held_input};
 use std::io;
 use std::io::Write;
 use std::random::RandomSource;
@@ -59,15 +59,14 @@ fn run<'a, R: OutputFiles, E: Write>(
         → AreNamedBy (R.named rt.now) (words_of words.entry.now)) }
     ensures unwritten { IfErr result (TellsUnwritten (R.failed rt.now)) }
 {
-    let (task, files) = read_input(rt, words)?;
-    let seed = name_seed(rt);
+    let (task, files) = read_held_input(rt, words)?;
     match task {
         Task::Link(outputs) => {
-            link_files(rt, seed, &outputs, &files, words, wanted, err)?;
+            link_held(rt, &outputs, files, words, wanted, err)?;
             Ok(None)
         }
         Task::Check(image, map) => {
-            let verdict = check_files(rt, seed, image, map, &files, words, wanted)?;
+            let verdict = check_held(rt, image, map, files, words, wanted)?;
             Ok(Some(verdict))
         }
     }

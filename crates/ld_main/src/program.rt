@@ -129,7 +129,11 @@ fn read_outputs<'a, R: Files + AllocGlobal>(
 }
 
 /// Reads the members of large archives that a link takes, where no others are needed; None where all files are to be read whole.
-fn read_parts<'a, R: Files + AllocGlobal>(
+///
+/// # Errors
+///
+/// Only where memory is refused, for words that are a command.
+pub fn read_parts<'a, R: Files + AllocGlobal>(
     rt: &R,
     files: HeldFiles<R::File>,
     words: &[String],
@@ -335,7 +339,11 @@ fn link_in_part<'a, R: OutputFiles>(
 }
 
 /// Reads the files that words name, of which the outputs may be none.
-fn read_whole_files<'a, R: Files + AllocGlobal>(
+///
+/// # Errors
+///
+/// A fault of the words, or of reading a file; Overwrites where an output is one of the files.
+pub fn read_whole_files<'a, R: Files + AllocGlobal>(
     rt: &R,
     outputs: &Outputs<'a>,
     words: &[String],
@@ -390,7 +398,11 @@ fn read_held_plan<'a, R: Files + AllocGlobal>(
 }
 
 /// Reads the words, and the files that they name, as `read_input` does, and of large archives only what a link looks at.
-fn read_held_input<'a, R: Files + AllocGlobal>(
+///
+/// # Errors
+///
+/// As `read_input`.
+pub fn read_held_input<'a, R: Files + AllocGlobal>(
     rt: &R,
     words: &'a [String],
 ) -> Result<(Task<'a>, HeldFiles<R::File>), Failure<'a>>

@@ -1,6 +1,6 @@
 //! Archives from 8 MB on: which places of one a run reads, and that its image is that of the same members in a smaller archive.
-use crate::tests::machine::StoredFile;
-use crate::tests::runs::{Outcome, run_line};
+use crate::tests::machine::{SOUND, StoredFile};
+use crate::tests::runs::{Outcome, Program, run_program_line};
 use link_samples::archives::archive;
 use link_samples::links::Member;
 use link_samples::objects::{NamedSymbol, Relocation, relocatable};
@@ -68,7 +68,13 @@ static LARGE: &[u8] = b"large.o/        0           0     0     644     8388608 
 
 /// What comes of a line on a system with an image and a map, an object that calls `f`, and with the archive, also behind its
 /// members the large one.
-fn outcome_with(alloc: Global, image: &[u8], map: &[u8], line: &str) -> Result<Outcome, Fail> {
+fn outcome_with(
+    alloc: Global,
+    program: Program,
+    image: &[u8],
+    map: &[u8],
+    line: &str,
+) -> Result<Outcome, Fail> {
     let caller = relocatable(alloc, &[TEXT], &[START, NO_F], &[CALL])?;
     let small = archive(alloc, &NAMES, &MEMBERS)?;
     let mut large = Vec::from_slice(alloc, &small)?;
@@ -82,23 +88,35 @@ fn outcome_with(alloc: Global, image: &[u8], map: &[u8], line: &str) -> Result<O
         StoredFile::sound("image", image),
         StoredFile::sound("map", map),
     ];
-    run_line(alloc, &stored, line)
+    run_program_line(alloc, program, &stored, SOUND, line)
 }
 
 /// What comes of a line where the image and the map have nothing.
-fn outcome(alloc: Global, line: &str) -> Result<Outcome, Fail> {
-    outcome_with(alloc, b"", b"", line)
+fn outcome(alloc: Global, program: Program, line: &str) -> Result<Outcome, Fail> {
+    outcome_with(alloc, program, b"", b"", line)
 }
 
 /// Lines, and all that comes of a run beside the image. The members' headers are at 96, 764, 1312 and 1860, that of the index at 8 and of
 /// the large member at 2528; the data of the index are at 68, those of `f` at 156 and of `h` at 1372.
-static ROWS: [(&str, &str); 2] = [
+static ROWS: [(Program, &str, &str); 4] = [
     (
+        Program::Ld,
         "-s -o out a.o -L large -lx",
+        "stat out\nread a.o\nread large/libx.a\nat 0\nat 8\nat 68\nat 96\nat 764\nat 1312\nat 1860\nat 2528\nat 156\nat 1372\nopen out\nnew .out.ld-0\nmode 100755\nrename .out.ld-0 to out\nout: \nerr: \nstatus 0",
+    ),
+    (
+        Program::Debug,
+        "-o out a.o -L large -lx",
         "stat out\nread a.o\nread large/libx.a\nat 0\nat 8\nat 68\nat 96\nat 764\nat 1312\nat 1860\nat 2528\nat 156\nat 1372\nopen out\nnew .out.ld-0\nmode 100755\nrename .out.ld-0 to out\nout: \nerr: \nstatus 0",
     ),
     // A link that is refused reads all files whole.
     (
+        Program::Debug,
+        "-o out -e none a.o -L large -lx",
+        "stat out\nread a.o\nread large/libx.a\nat 0\nat 8\nat 68\nat 96\nat 764\nat 1312\nat 1860\nat 2528\nat 156\nat 1372\nread a.o\nread large/libx.a\nout: \nerr: ld: NoEntry (18)\n\nstatus 1",
+    ),
+    (
+        Program::Ld,
         "-s -o out -e none a.o -L large -lx",
         "stat out\nread a.o\nread large/libx.a\nat 0\nat 8\nat 68\nat 96\nat 764\nat 1312\nat 1860\nat 2528\nat 156\nat 1372\nread a.o\nread large/libx.a\nout: \nerr: ld: NoEntry (18)\n\nstatus 1",
     ),
@@ -106,8 +124,8 @@ static ROWS: [(&str, &str); 2] = [
 
 #[test]
 fn large_archives_are_read_where_a_link_looks(rt: HostRuntime) -> Result<(), Fail> {
-    for (line, told) in &ROWS {
-        let run = outcome(rt.alloc(), line)?;
+    for (program, line, told) in &ROWS {
+        let run = outcome(rt.alloc(), *program, line)?;
         assert_eq!(rt; run.told.as_str(), *told, "{line}");
     }
     Ok(())
@@ -115,12 +133,14 @@ fn large_archives_are_read_where_a_link_looks(rt: HostRuntime) -> Result<(), Fai
 
 #[test]
 fn images_are_those_of_small_archives(rt: HostRuntime) -> Result<(), Fail> {
-    let small = outcome(rt.alloc(), "-s -o out a.o -L small -lx")?;
-    let large = outcome(rt.alloc(), "-s -o out a.o -L large -lx")?;
-    let ([one], [other]) = (small.made.as_slice(), large.made.as_slice()) else {
-        return Err(Fail::from("one image each"));
-    };
-    assert!(rt; one.bytes == other.bytes);
+    for program in [Program::Ld, Program::Debug] {
+        let small = outcome(rt.alloc(), program, "-o out a.o -L small -lx")?;
+        let large = outcome(rt.alloc(), program, "-o out a.o -L large -lx")?;
+        let ([one], [other]) = (small.made.as_slice(), large.made.as_slice()) else {
+            return Err(Fail::from("one image each"));
+        };
+        assert!(rt; one.bytes == other.bytes);
+    }
     Ok(())
 }
 
@@ -132,20 +152,46 @@ const READ: &str =
 #[test]
 fn large_archives_are_read_where_a_check_looks(rt: HostRuntime) -> Result<(), Fail> {
     let alloc = rt.alloc();
-    let made = outcome(alloc, "-s -o out -Map=text a.o -L large -lx")?;
+    let made = outcome(alloc, Program::Ld, "-s -o out -Map=text a.o -L large -lx")?;
     let ([image, map], []) = made.made.as_slice().split_at(2) else {
         return Err(Fail::from("an image and a map"));
     };
     let line = "-s --check -o image -Map=map a.o -L large -lx";
-    let right = outcome_with(alloc, &image.bytes, &map.bytes, line)?;
+    let right = outcome_with(alloc, Program::Ld, &image.bytes, &map.bytes, line)?;
     let wanted = format!(in alloc;
         "{READ}read image\nread map\nat 156\nat 1372\nout: yes\n\nerr: \nstatus 0"
     )?;
     assert_eq!(rt; right.told, wanted);
     // What is wrong is judged by whole files.
-    let wrong = outcome_with(alloc, &map.bytes, &map.bytes, line)?;
+    let wrong = outcome_with(alloc, Program::Ld, &map.bytes, &map.bytes, line)?;
     let wanted = format!(in alloc;
         "{READ}read image\nread map\nat 156\nat 1372\nread a.o\nread large/libx.a\nout: no C4\n\nerr: \nstatus 1"
+    )?;
+    assert_eq!(rt; wrong.told, wanted);
+    Ok(())
+}
+
+/// The same of images for tools: the one of the archive, and that of `ld`, which has no tables.
+#[test]
+fn large_archives_are_read_where_a_check_of_tables_looks(rt: HostRuntime) -> Result<(), Fail> {
+    let alloc = rt.alloc();
+    let made = outcome(alloc, Program::Debug, "-o out -Map=text a.o -L large -lx")?;
+    let ([image, map], []) = made.made.as_slice().split_at(2) else {
+        return Err(Fail::from("an image and a map"));
+    };
+    let line = "--check -o image -Map=map a.o -L large -lx";
+    let right = outcome_with(alloc, Program::Debug, &image.bytes, &map.bytes, line)?;
+    let wanted = format!(in alloc;
+        "{READ}read image\nread map\nat 156\nat 1372\nout: yes\n\nerr: \nstatus 0"
+    )?;
+    assert_eq!(rt; right.told, wanted);
+    let plain = outcome(alloc, Program::Ld, "-s -o out a.o -L large -lx")?;
+    let [bare] = plain.made.as_slice() else {
+        return Err(Fail::from("an image"));
+    };
+    let wrong = outcome_with(alloc, Program::Debug, &bare.bytes, &map.bytes, line)?;
+    let wanted = format!(in alloc;
+        "{READ}read image\nread map\nat 156\nat 1372\nread a.o\nread large/libx.a\nout: no tables\n\nerr: \nstatus 1"
     )?;
     assert_eq!(rt; wrong.told, wanted);
     Ok(())

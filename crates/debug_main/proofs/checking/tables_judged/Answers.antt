@@ -2,7 +2,8 @@ use Rattle.std.proofs.Common.{◌≡◌, ◌⊎◌, List, ℕ, inl, inr, refl, s
 use Rattle.std.specs.Prelude.{None, Option, Some, false}
 use Rattle.std.proofs.lemmas.Result.{IfOk-weaker}
 use Rattle.elf_model.specs.declared.faults.LinkError.{LinkError}
-use Rattle.elf_model.specs.Inputs.Files.{File, files_of, words_of}
+use Rattle.elf_model.specs.Inputs.Files.{File, words_of}
+use Rattle.opening.specs.Held.{held_files}
 use Rattle.image_write.specs.Linkages.{Linked}
 use Rattle.image_write.specs.Listings.{IsListing}
 use Rattle.linker.specs.Linkages.{HasOwnLink, IsPrepared}
@@ -35,7 +36,7 @@ told files words w image d r is (inr e) = subst (IsNone files words w image) (sy
 
 pub returns-in-Ok-Some : goal.returns-in-Ok-Some
 returns-in-Ok-Some c =
-    let files = files_of c.args.files.now in
+    let files = held_files c.args.parts.now c.args.files.now in
     let words = words_of c.args.words.now in
     let made = subst (λ r. (names : List code.Definition) × IsListing c.in-Ok.linkage.objects names × CanBeSaid c.args.wanted c.in-Ok.linkage (meaning_views names) × Compares c.args.image.now (debug_file c.args.wanted c.in-Ok.linkage (meaning_views names)) r) c.in-Ok-Some.field-0-is c.in-Ok-Some.ensures.compared in
     told files words c.args.wanted c.args.image.now c.in-Ok-Some.at c.told.result
@@ -57,7 +58,7 @@ large files words w image l e v prepared said is =
 
 pub returns : goal.returns
 returns c =
-    let files = files_of c.args.files.now in
+    let files = held_files c.args.parts.now c.args.files.now in
     let words = words_of c.args.words.now in
     let said = subst (λ e. is_memory e ≡ false → (names : List code.Definition) × IsListing c.in-Ok.linkage.objects names × (¬ CanBeSaid c.args.wanted c.in-Ok.linkage (meaning_views names))) c.in-Err-compared.error-is c.in-Err-compared.ensures.large in
     IfOk-weaker c.without_tables-in-Err-compared.result (λ v. (v ≡ verdict.NoTables None) × (is_memory c.in-Err-compared.error ≡ false)) (TellsTables files words c.args.wanted c.args.image.now)

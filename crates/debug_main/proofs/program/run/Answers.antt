@@ -1,6 +1,7 @@
-use Rattle.std.proofs.Common.{◌≡◌, ℕ, List, arith}
+use Rattle.std.proofs.Common.{◌≡◌, ◌∙◌, ℕ, List, ap, arith}
 use Rattle.elf_model.specs.Inputs.Files.{File}
 use Rattle.ld_main.specs.Program.{HasRightLink}
+use Rattle.ld_main.specs.Tasks.{is_check}
 use Rattle.debug_image.specs.PlainImages.{plain_of}
 use Rattle.debug_image.specs.declared.debug_file.Wanted.{Wanted}
 use Rattle.debug_main.specs.Verdicts.{Says, verdict_status}
@@ -16,10 +17,10 @@ right_of files words w image text verdict.Yes says status = (files, (plain_of im
 right_of files words w image text (verdict.No c) says status = absurd (omega (arith, status))
 right_of files words w image text (verdict.NoTables d) says status = absurd (omega (arith, status))
 
-pub returns-clause-right : goal.returns-clause-right
-returns-clause-right g c = λ status.
+pub returns-in_ok-verdict-in-Check-clause-right : goal.returns-in_ok-verdict-in-Check-clause-right
+returns-in_ok-verdict-in-Check-clause-right g c = λ status.
     let judged = c.in_ok-verdict-in-Check.ensures.judged in
-    right_of _ _ c.args.wanted judged.0 judged.1 c.in_ok-verdict-in-Check.verdict judged.2 status
+    right_of judged.0 _ c.args.wanted judged.1.0 judged.1.1 c.in_ok-verdict-in-Check.verdict judged.1.2 status
 
-pub returns-clause-judged : goal.returns-clause-judged
-returns-clause-judged g c = (_, c.in_ok-verdict-in-Check.ensures.judged)
+pub returns-in_ok-verdict-in-Check-clause-mode : goal.returns-in_ok-verdict-in-Check-clause-mode
+returns-in_ok-verdict-in-Check-clause-mode g c plan is = c.in_ok-task.ensures.mode plan is ∙ ap is_check c.in-Check.is
