@@ -5,7 +5,6 @@ or a map that is made to hurt. No linker is needed.
     tools/judge/test.py
 """
 
-import importlib.machinery
 import os
 import struct
 import subprocess
@@ -19,8 +18,10 @@ sys.dont_write_bytecode = True
 HERE = Path(__file__).resolve().parent
 sys.path.insert(0, str(HERE))
 
+import elf  # noqa: E402
 import order  # noqa: E402
 import peers  # noqa: E402
+import places  # noqa: E402
 import script  # noqa: E402
 
 # Stands for `ld`: its map has no line but the first and the last.
@@ -99,11 +100,21 @@ class StandIn(unittest.TestCase):
             made = self.run_in(folder, ["-o", "x", "a.o"], "no F7\n  object 0, section 1: bytes", "1")
             self.assertEqual((made.returncode, made.stderr), (1, "no F7: x\n  object 0, section 1: bytes\n"))
 
-    def test_objects_of_places_are_told_by_their_paths(self):
-        stand_in = importlib.machinery.SourceFileLoader("stand_in", str(HERE / "bin" / "ld")).load_module("stand_in")
-        lines = ["object 0 0 0 a b.o", "object 1 2 78 b.a", "place 00000000002010e8 5 0 1 .text"]
-        self.assertEqual(stand_in.named("no F5\n  object 1, section 2, offset 3: a field", lines), "no F5\n  b.a(78), section 2, offset 3: a field")
-        self.assertEqual(stand_in.named("no F7\n  object 0, section 2: bytes", lines), "no F7\n  a b.o, section 2: bytes")
+    def test_places_are_told_by_names(self):
+        made = elf.Object()
+        made.symbol("f", 0)
+        code = made.section(".text.main", 1, elf.ALLOC | elf.EXEC, bytes(8))
+        made.relocations(code, [(3, 4, 1, -4)])
+        with tempfile.TemporaryDirectory() as folder:
+            path = Path(folder) / "a.o"
+            path.write_bytes(made.bytes())
+            objects = places.loaded([f"object 0 0 0 {path}", "object 1 2 78 none.a", "place 00000000002010e8 5 0 1 .text"])
+            field = f"  object 0, section {code}, offset 3: the field of a relocation of type 4"
+            self.assertEqual(places.told(field, objects), f"  {path}:(.text.main+0x3): the field of R_X86_64_PLT32 to f is another one")
+            rest = places.told(f"  object 0, section {code}: bytes beside the fields of relocations", objects)
+            self.assertEqual(rest, f"  {path}:(.text.main): other bytes than the object's, beside the fields of relocations")
+            for line in ("  object 1, section 1: bytes", "  object 0, section 99: bytes", "  object 7, section 1: bytes", "no F1"):
+                self.assertEqual(places.told(line, objects), line)
 
     def test_what_is_not_judged_is_linked(self):
         with tempfile.TemporaryDirectory() as folder:
