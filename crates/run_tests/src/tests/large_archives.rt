@@ -81,12 +81,14 @@ fn outcome_with(
     large.extend_from_slice(LARGE)?;
     let length = large.len().saturating_add(8 << 20);
     large.resize(length, 0)?;
+    let image = Vec::from_slice(alloc, image)?;
+    let map = Vec::from_slice(alloc, map)?;
     let stored = [
         StoredFile::sound("a.o", &caller),
         StoredFile::sound("small/libx.a", &small),
         StoredFile::sound("large/libx.a", &large),
-        StoredFile::sound("image", image),
-        StoredFile::sound("map", map),
+        StoredFile::sound("image", &image),
+        StoredFile::sound("map", &map),
     ];
     run_program_line(alloc, program, &stored, SOUND, line)
 }
@@ -153,7 +155,7 @@ const READ: &str =
 fn large_archives_are_read_where_a_check_looks(rt: HostRuntime) -> Result<(), Fail> {
     let alloc = rt.alloc();
     let made = outcome(alloc, Program::Ld, "-s -o out -Map=text a.o -L large -lx")?;
-    let ([image, map], []) = made.made.as_slice().split_at(2) else {
+    let [image, map] = made.made.as_slice() else {
         return Err(Fail::from("an image and a map"));
     };
     let line = "-s --check -o image -Map=map a.o -L large -lx";
@@ -176,7 +178,7 @@ fn large_archives_are_read_where_a_check_looks(rt: HostRuntime) -> Result<(), Fa
 fn large_archives_are_read_where_a_check_of_tables_looks(rt: HostRuntime) -> Result<(), Fail> {
     let alloc = rt.alloc();
     let made = outcome(alloc, Program::Debug, "-o out -Map=text a.o -L large -lx")?;
-    let ([image, map], []) = made.made.as_slice().split_at(2) else {
+    let [image, map] = made.made.as_slice() else {
         return Err(Fail::from("an image and a map"));
     };
     let line = "--check -o image -Map=map a.o -L large -lx";
