@@ -204,8 +204,25 @@ def told_by_fields(link: Skeleton, image: elf.Image) -> Dict[str, int]:
     return told
 
 
+# Words of other linkers that our `ld` refuses, and that say nothing of which objects are loaded: where sections are, which rights
+# segments have, and what an image has beside them.
+REFUSED = ("-N", "--omagic", "-q", "--emit-relocs")
+REFUSED_FRONTS = ("-Ttext=", "-Tdata=", "-Tbss=", "--section-start=")
+
+
+def loading(words: List[str]) -> List[str]:
+    """The words that our `ld` is given, which says which objects a link loads."""
+    kept: List[str] = []
+    for word in words:
+        if word == "execstack" and kept[-1:] == ["-z"]:
+            kept.pop()
+        elif word not in REFUSED and not word.startswith(REFUSED_FRONTS):
+            kept.append(word)
+    return kept
+
+
 def certificate(image_path: str, peer_path: str, words: List[str], driven: bool) -> str:
-    link = skeleton(words, driven)
+    link = skeleton(loading(words) if driven else words, driven)
     data = Path(image_path).read_bytes()
     if not data.startswith(b"\x7fELF\x02\x01"):
         sys.exit(f"certificate.py: {image_path} is no ELF-64 image")
