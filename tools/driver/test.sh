@@ -339,6 +339,10 @@ ld: a.o: .text+0x5: -s a.o asks for f, 1' "$(told LD_WHY=./places LD_PROGRAM=./r
 compare 'ld: Undefined (10): f
 ld: a.o: .text+0x5: -s a.o asks for f, 1' "$(told LD_CHECK=1 LD_WHY=./places LD_PROGRAM=./refusing "$driver" -s a.o | sed 's/ -Map=[^ ]*//')"
 compare 'ld: Undefined (10): f, 1' "$(told LD_PROGRAM=./refusing "$driver" -s a.o)"
+# So they do where a check says no.
+compare 'ld: the check of image says: no C10
+ld: a.o: .text+0x5: -o image a.o --check asks for f, 1' \
+    "$(told LD_CHECK=1 LD_WHY=./places LD_PROGRAM=./checking "$driver" -o image a.o | sed 's/ -Map=[^ ]*//')"
 
 # In place of a copy the file is named of which it was made.
 printf '#!/bin/sh\necho "ld: BadObject (4): NotElf64 (3)" >&2\nexit 1\n' >unreading
@@ -482,12 +486,25 @@ share/man/man1/cakthuy-c++.1
 share/man/man1/cakthuy-cc-static.1
 share/man/man1/cakthuy-cc.1
 share/man/man1/cakthuy-ld-debug.1
+share/man/man1/cakthuy-ld-judge.1
 share/man/man1/cakthuy-ld-why.1
 share/man/man1/cakthuy-ld.1
 share/man/man5/cakthuy-map.5' "$(cd dest/p && find . ! -type d ! -path '*/judge/*' | sed 's,^\./,,' | LC_ALL=C sort)"
 compare '../libexec/cakthuy/c++-static' "$(readlink dest/p/bin/cakthuy-c++)"
 compare '[-s][a.o], 0' "$(told -u LD_PROGRAM dest/p/libexec/cakthuy/ld -s a.o)"
 compare '[-s][a.o], 0' "$(told -u LD_PROGRAM LD_UNPROVED=1 dest/p/libexec/cakthuy/ld -s a.o)"
+# An image for tools is checked with the words with which it was linked, and what says why is told of which program it speaks.
+mkdir -p tree/crates/ld_debug/out
+cp checking tree/crates/ld_debug/out/ld_debug
+echo 'no C10' >says
+compare 'ld: the check of image says: no C10
+ld: a.o: .text+0x5: --debug -S -o image a.o --check asks for f, 1' \
+    "$(told -u LD_PROGRAM LD_CHECK=1 LD_WHY=./places tree/tools/driver/ld -S -o image a.o | sed 's/ -Map=[^ ]*//')"
+printf '#!/bin/sh\nfor word do [ "$word" != --check ] || echo "$*" >words; done\necho image >image\n' >tree/crates/ld_debug/out/ld_debug
+told -u LD_PROGRAM LD_CHECK=1 tree/tools/driver/ld -S -o image a.o >said
+compare ', 0' "$(cat said)"
+compare '-S -o image a.o --check' "$(sed 's/ -Map=[^ ]*//' words)"
+rm -r tree/crates/ld_debug image
 compare "It runs the proved linker, $(readlink -f dest/p/bin/cakthuy-ld)." \
     "$(env -u LD_PROGRAM dest/p/libexec/cakthuy/ld --version | sed 1d)"
 printf '#!/bin/sh\necho "for tools: $*"\n' >dest/p/bin/cakthuy-ld-debug
