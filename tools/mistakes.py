@@ -49,9 +49,17 @@ def start(name="a.o", body="nop"):
     return asm(name, START.format(body))
 
 
-def ar(name, words, *members):
+def ar(name, words, *members, program="ar"):
     """An archive of members."""
-    subprocess.run(["ar", words, name, *members], check=True, stderr=subprocess.DEVNULL)
+    subprocess.run([program, words, name, *members], check=True, stderr=subprocess.DEVNULL)
+    return name
+
+
+def stale(name, source, other):
+    """An archive of a member from assembly that has the index of another one, of the same size, by that name."""
+    index, members = (Path(ar(f"{k}.a", "rcs", asm("f.o", words))).read_bytes() for k, words in enumerate((source, other)))
+    end = 68 + int(index[56:66])
+    Path(name).write_bytes(index[:end] + members[end:])
     return name
 
 
@@ -175,6 +183,16 @@ MISTAKES = [
         "a library is named before what needs it",
         "a.o|f is not defined|libf.a",
         lambda: [ar("libf.a", "rcs", asm("f.o", F)), start(body=CALL_F)],
+    ),
+    mistake(
+        "the index of a library isn't that of its members",
+        "a.o|f is not defined|libf.a|f.o|ranlib",
+        lambda: [start(body=CALL_F), stale("libf.a", F, ".globl g\ng: ret\n")],
+    ),
+    mistake(
+        "a library was compiled with -flto, and gcc-ar made its index",
+        "a.o|f is not defined|libf.a|f.o|-ffat-lto-objects",
+        lambda: [start(body=CALL_F), ar("libf.a", "rcs", c("f.o", "void f(void) {}\n", "-flto"), program="gcc-ar")],
     ),
     mistake(
         "a function is defined twice",

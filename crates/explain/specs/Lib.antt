@@ -1,3 +1,4 @@
+pub mod Archives
 pub mod Flawed
 pub mod Hints
 pub mod Notes

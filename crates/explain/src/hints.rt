@@ -32,7 +32,10 @@ pub(crate) fn undefined_name<'a>(place: &Place<'a>) -> Option<&'a [u8]> {
 }
 
 /// The first names that places ask for; no two ask for one.
-fn undefined_names<'a>(alloc: Global, places: &[Place<'a>]) -> Result<Vec<&'a [u8]>, AllocError> {
+pub(crate) fn undefined_names<'a>(
+    alloc: Global,
+    places: &[Place<'a>],
+) -> Result<Vec<&'a [u8]>, AllocError> {
     let mut names = Vec::new(alloc);
     for place in places {
         if let Some(name) = undefined_name(place)

@@ -3,6 +3,8 @@
 //! Begin with `explain`.
 #![tactic(auto)]
 
+mod archive_text;
+mod archives;
 mod files;
 mod flaw_places;
 mod hint_text;

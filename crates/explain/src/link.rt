@@ -8,11 +8,13 @@ ghost use Rattle.resolve.specs.declared.faults.ResolveFault.TheVariants as resol
 ghost use Rattle.search.specs.declared.faults.SearchFault.TheVariants as search_fault;
 ghost use Rattle.flaws.specs.Flaws.{AreResolvable};
 ghost use Rattle.wrong_references.specs.References.{AreReferable};
+ghost use Rattle.explain.specs.Archives.{IsArchiveNoteOf};
 ghost use Rattle.explain.specs.Flawed.{IsOfReferences, IsOfResolution, TellsReferences, TellsReferencesOf, TellsResolution, TellsResolutionOf, TellsUnreferable, TellsUnresolvable};
 ghost use Rattle.explain.specs.Hints.{IsHintOf};
 ghost use Rattle.explain.specs.Notes.{IsNote, IsNoteOf};
 ghost use Rattle.explain.specs.Places.{AreSo, Ground, Holds, OfLoaded, Says};
 
+use crate::archives::archives_of;
 use crate::files::add_unloaded;
 use crate::flaw_places::tell_resolution;
 use crate::hints::{Hint, hints_of};
@@ -20,6 +22,7 @@ use crate::notes::{Note, notes_of};
 use crate::place::{Added, Found, Place};
 use crate::reference_places::tell_references;
 use crate::wanted::{Wanted, add_wanted};
+use archive_notes::ArchiveNote;
 use command::{Plan, read_words, refused_word};
 use elf_model::{CmdFault, InputFile, LinkError, NameSeed};
 use got_tls::slots;
@@ -36,6 +39,7 @@ use wrong_references::reference_flaws;
 struct Beside<'a> {
     hints: Vec<Hint<'a>>,
     notes: Vec<Note<'a>>,
+    archives: Vec<ArchiveNote<'a>>,
 }
 
 impl Beside<'_> {
@@ -43,10 +47,12 @@ impl Beside<'_> {
     fn nothing(alloc: Global) -> Self
         ensures hints { length result.hints.items ≡ 0 }
         ensures notes { length result.notes.items ≡ 0 }
+        ensures archives { length result.archives.items ≡ 0 }
     {
         Beside {
             hints: Vec::new(alloc),
             notes: Vec::new(alloc),
+            archives: Vec::new(alloc),
         }
     }
 }
@@ -164,6 +170,8 @@ fn add_reasons<'a>(
         (IsHintOf (files_of files.entry.now) (words_of words.entry.now)) b.hints.items) }
     ensures notes { IfOk result (λ b. All
         (IsNoteOf (files_of files.entry.now) (words_of words.entry.now)) b.notes.items) }
+    ensures archives { IfOk result (λ b. All
+        (IsArchiveNoteOf (files_of files.entry.now) (words_of words.entry.now)) b.archives.items) }
 {
     let alloc = found.alloc;
     let plan = match read_words(alloc, words) {
@@ -179,7 +187,12 @@ fn add_reasons<'a>(
         Ok(loaded) => {
             let notes = add_loaded(found, &loaded)?;
             let hints = hints_of(alloc, &loaded, &found.places)?;
-            Ok(Beside { hints, notes })
+            let archives = archives_of(alloc, files, &loaded, &found.places)?;
+            Ok(Beside {
+                hints,
+                notes,
+                archives,
+            })
         }
         Err(fault) => {
             if is_memory(fault) {
@@ -194,7 +207,7 @@ fn add_reasons<'a>(
 /// Why the link of files that words name is refused with an error: the first places at which something is wrong, at most so
 /// many, and how many more there are. They are of the phase of the error, each with the error's cause or that of an error of the
 /// same phase; where none is found, the error as a whole. Hints are definitions whose names are like those that are not defined,
-/// notes what is told beside relocations. Names are found by hash, from a seed: who picks the names can make them collide only
+/// notes what is told beside relocations, archives what an archive has to do with a name that nothing defines. Names are found by hash, from a seed: who picks the names can make them collide only
 /// where the seed is known.
 ///
 /// # Errors
@@ -215,6 +228,8 @@ pub fn explain<'a>(
         (IsHintOf (files_of files.entry.now) (words_of words.entry.now)) f.hints.items) }
     ensures notes { IfOk result (λ f. All
         (IsNoteOf (files_of files.entry.now) (words_of words.entry.now)) f.notes.items) }
+    ensures archives { IfOk result (λ f. All
+        (IsArchiveNoteOf (files_of files.entry.now) (words_of words.entry.now)) f.archives.items) }
     ensures resolution { IsOfResolution error.entry.now → IfOk result
         (TellsResolution (files_of files.entry.now) (words_of words.entry.now) most) }
     ensures references { IsOfReferences error.entry.now → IfOk result
@@ -230,6 +245,7 @@ pub fn explain<'a>(
             let mut told = found.told(error, most)?;
             told.hints = beside.hints;
             told.notes = beside.notes;
+            told.archives = beside.archives;
             Ok(told)
         }
     }

@@ -8,6 +8,7 @@ ghost use Rattle.explain.specs.Places.{AreSo, Ground, Holds, IsOf, IsSo, Says};
 
 use crate::hints::Hint;
 use crate::notes::Note;
+use archive_notes::ArchiveNote;
 use bad_parts::BadPart;
 use command::Source;
 use elf_model::{ArFault, CmdFault, GroupFault, LinkError, ObjFault, SectionHeader, Symbol};
@@ -144,6 +145,8 @@ pub struct Found<'a> {
     pub hints: Vec<Hint<'a>>,
     /// What is told beside places.
     pub notes: Vec<Note<'a>>,
+    /// What archives have to do with the names that places ask for.
+    pub archives: Vec<ArchiveNote<'a>>,
     pub(crate) most: usize,
 }
 
@@ -159,6 +162,7 @@ impl<'a> Found<'a> {
             more: 0,
             hints: Vec::new(alloc),
             notes: Vec::new(alloc),
+            archives: Vec::new(alloc),
             most,
         }
     }

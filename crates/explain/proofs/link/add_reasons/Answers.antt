@@ -31,6 +31,14 @@ returns-in-Ok-load_seeded-clause-hints c k d within =
       c.in_ok-hints-in-Ok-load_seeded.ensures k d within,
     )
 
+pub returns-in-Ok-load_seeded-clause-archives : goal.returns-in-Ok-load_seeded-clause-archives
+returns-in-Ok-load_seeded-clause-archives c k d within =
+    let read = c.in-Ok-load_seeded.ensures in (
+      c.in-Ok-load_seeded.loaded,
+      record { plan = _; words_are = c.in-Ok.ensures.plan; plan_is = read.plan; loads = read.loaded },
+      c.in_ok-archives-in-Ok-load_seeded.ensures k d within,
+    )
+
 pub returns-in-Ok-load_seeded-clause-resolution : goal.returns-in-Ok-load_seeded-clause-resolution
 returns-in-Ok-load_seeded-clause-resolution c = λ plan has bad.
     let files = files_of c.args.files.now in

@@ -21,6 +21,7 @@ returns-in_ok-told-in_default c =
       holds = told.holds files words c.in_default.not-Memory c.requires added.places;
       hints = added.hints;
       notes = added.notes;
+      archives = added.archives;
       resolution =
           λ of plan is.
           let u = refused files words e of c.requires in

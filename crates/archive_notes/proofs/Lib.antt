@@ -1,0 +1,3 @@
+pub mod NoneFound
+pub mod NoteLaws
+pub mod Taken
