@@ -1,0 +1,3 @@
+pub mod EachItem
+pub mod ItemWalks
+pub mod NoneLeft

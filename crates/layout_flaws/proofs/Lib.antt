@@ -1,0 +1,3 @@
+pub mod EachFlaw
+pub mod Fitting
+pub mod Room
