@@ -18,6 +18,7 @@ that one, in place of the proved one.
     map-slots     the same with lines `slot`
     map-symbols   the same with lines `symbol`
     segments      an image with 65,533 PT_LOADs, each of one page with a section of zeros; single: half of them
+    wrong-zeros   a section of 4,000,000 MiB of zeros, and an image with a wrong byte of code
     group-names   a group of 2,000 archives, of which the first one's member asks for 80,000 names that none defines
     group-order   a group of 10,000 archives, each of which asks for the one before it: a round loads one
     flooded       16,000 symbols with slots, common symbols, signatures, output sections and names of an index each, whose
@@ -39,7 +40,7 @@ are small, and have no limit:
     products      400 directories, none of them there, and as many -l of names that only a last one has
 
 All but the maps and `segments` are linked with a map, and the link is checked; `undefined`, `one-undefined` and `lines` are refused.
-The maps and `segments` are only checked: their images and maps are made here, and have no tables for `ld-debug`. Time is that of the processor, in the program and in the system for it, memory the greatest
+The maps, `segments` and `wrong-zeros` are only checked: their images and maps are made here, and have no tables for `ld-debug`. Time is that of the processor, in the program and in the system for it, memory the greatest
 resident set, medians of the runs, in seconds and MiB; `by bytes` is memory by the bytes of all files that are read or
 written, and of the words. The last two columns are the doubled input's time and memory by those of the single one:
 linear is 2.
@@ -471,6 +472,21 @@ def many_segments(folder, count):
     return [Step("check", words, [path, image, text], "yes\n")]
 
 
+def wrong_zeros(folder, count):
+    """An object with so many MiB of zeros, and an image of it with a wrong byte of code: the check says so, and the zeros are in no file."""
+    made = elf.Object()
+    made.symbol("_start", made.section(".text", elf.PROGBITS, CODE, EXIT))
+    made.section(".bss", elf.NOBITS, DATA, b"", 1, size=count << 20)
+    path, image, text = folder / "zeros.o", folder / "image", folder / "map"
+    path.write_bytes(made.bytes())
+    headers = [load_header(4, 0x400000, 288, 288), load_header(5, 0x401000, 9, 9), load_header(6, 0x402000, 0, count << 20), STACK]
+    image.write_bytes(image_of(headers, 0x1000) + EXIT[:1] + b"\x3d" + EXIT[2:])
+    zeros = f"place 0000000000402000 {count << 20} 0 2 .bss\n"
+    text.write_text(f"ldmap 2\nobject 0 0 0 {path}\n{PLACE}{zeros}{SYMBOL}end\n")
+    words = ["-s", "-o", image, f"-Map={text}", "--check", path]
+    return [Step("check", words, [path, image, text], "no C10\n", 1)]
+
+
 INPUTS = {
     "weak": (weak_symbols, 1_000_000),
     "sections": (many_sections, 65_000),
@@ -484,6 +500,7 @@ INPUTS = {
     "map-slots": (map_of_slots, 1_000_000),
     "map-symbols": (map_of_symbols, 1_000_000),
     "segments": (many_segments, 32_600),
+    "wrong-zeros": (wrong_zeros, 4_000_000),
     "group-names": (group_names, 2_000),
     "group-order": (group_order, 10_000),
     "flooded": (flooded, 16_000),

@@ -169,18 +169,30 @@ fn wanted_with(own: &[u8], fields: &[Field], k: u64) -> Option<u8>
     }
 }
 
-/// The first index below a size at which what memory holds of a section isn't what its fields, which stand in order, and its
-/// own bytes want; bytes past an end count as 0.
+/// The first of the indices below an end, from one on, at which what memory holds of a section isn't what a field and its own bytes
+/// want.
+fn first_between(held: &[u8], own: &[u8], near: &[Field], from: u64, to: u64) -> Option<u64> {
+    (from..to).find(|k| wanted_with(own, near, *k) != Some(byte_of(held, *k)))
+}
+
+/// The first index below a size at which what memory holds of a section isn't what its fields, which are in order, and its own bytes
+/// want; bytes past an end count as 0. After both ends only fields are looked at, since all else is 0 and wanted so.
 fn first_unwanted(held: &[u8], own: &[u8], fields: &[Field], size: u64) -> Option<u64> {
+    let end = held.len().max(own.len()) as u64;
     let mut from = 0;
     for i in 0..=fields.len() {
         let near = &fields[i..fields.len().min(i + 1)];
+        let at = near.first().map_or(size, |f| f.at);
         let to = near
             .first()
             .map_or(size, |f| f.at.saturating_add(f.width as u64));
-        let first = (from..to).find(|k| wanted_with(own, near, *k) != Some(byte_of(held, *k)));
-        if first.is_some() {
-            return first;
+        let before = first_between(held, own, near, from, at.min(end));
+        if before.is_some() {
+            return before;
+        }
+        let inside = first_between(held, own, near, from.max(at), to);
+        if inside.is_some() {
+            return inside;
         }
         from = to;
     }
