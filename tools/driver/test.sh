@@ -493,12 +493,11 @@ share/man/man5/cakthuy-map.5' "$(cd dest/p && find . ! -type d ! -path '*/judge/
 compare '../libexec/cakthuy/c++-static' "$(readlink dest/p/bin/cakthuy-c++)"
 compare '[-s][a.o], 0' "$(told -u LD_PROGRAM dest/p/libexec/cakthuy/ld -s a.o)"
 compare '[-s][a.o], 0' "$(told -u LD_PROGRAM LD_UNPROVED=1 dest/p/libexec/cakthuy/ld -s a.o)"
-# An image for tools is checked with the words with which it was linked, and what says why is told of which program it speaks.
+# An image for tools is checked with the words with which it was linked; where the check says no, no places are told.
 mkdir -p tree/crates/ld_debug/out
 cp checking tree/crates/ld_debug/out/ld_debug
 echo 'no C10' >says
-compare 'ld: the check of image says: no C10
-ld: a.o: .text+0x5: --debug -S -o image a.o --check asks for f, 1' \
+compare 'ld: the check of image says: no C10, 1' \
     "$(told -u LD_PROGRAM LD_CHECK=1 LD_WHY=./places tree/tools/driver/ld -S -o image a.o | sed 's/ -Map=[^ ]*//')"
 printf '#!/bin/sh\nfor word do [ "$word" != --check ] || echo "$*" >words; done\necho image >image\n' >tree/crates/ld_debug/out/ld_debug
 told -u LD_PROGRAM LD_CHECK=1 tree/tools/driver/ld -S -o image a.o >said
