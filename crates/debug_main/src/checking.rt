@@ -211,7 +211,11 @@ fn judged_in_part<'a, R: Files + AllocGlobal + RandomSource>(
 }
 
 /// What the check of an image for tools and a map comes to, of files that were read whole.
-fn judged_whole(
+///
+/// # Errors
+///
+/// Only where memory is refused.
+pub fn judged_whole(
     alloc: Global,
     seed: NameSeed,
     files: &[InputFile],

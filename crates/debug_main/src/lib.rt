@@ -16,9 +16,10 @@ mod reports;
 mod verdict;
 mod words;
 
+pub use checking::judged_whole;
 pub use comparing::Comparing;
 pub use debug_file::{DebugFile, write_debug_file};
 pub use laws::no_tables_excludes_yes;
-pub use program::{run_args, run_debug};
+pub use program::{run_args, run_debug, wanted};
 pub use verdict::{DebugVerdict, Difference};
 pub use words::{plain_words, stands_alone, stripped};

@@ -22,7 +22,7 @@ use std::rt::{Env, Files};
 
 /// What an image is to have besides sections and what names mean: no LOCAL symbols where the words have -s, no debug data where
 /// they have -S, as words of their own.
-fn wanted(words: &[String]) -> Wanted
+pub fn wanted(words: &[String]) -> Wanted
     ensures locals { result.locals ≡ not (stands_alone (codes "-s") (words_of words.now)) }
     ensures data { result.debug ≡ not (stands_alone (codes "-S") (words_of words.now)) }
 {
